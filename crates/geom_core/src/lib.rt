@@ -1,0 +1,24 @@
+//! The plain types of triangle geometry in whole numbers, and the definitions that every other crate
+//! cites: boxes and distances, edge sums, a camera's spots, winding, depth, and the picture.
+//!
+//! The types stand here; what they mean stands in `specs/`, one idea a file, and the laws about those
+//! definitions in `proofs/`.
+#![tactic(auto)]
+
+mod boxes;
+mod digests;
+mod lists;
+mod points;
+mod screens;
+mod shortage;
+mod triangles;
+mod views;
+
+pub use boxes::Cube;
+pub use digests::Digest32;
+pub use lists::{Nums, Words};
+pub use points::Pt;
+pub use screens::{Size, Spot};
+pub use shortage::Memory;
+pub use triangles::{Tagged, Tri};
+pub use views::Lens;

@@ -1,0 +1,19 @@
+/// A screen position with its depth.
+#[derive(Clone, Copy, Debug, PartialEq, Eq, PartialOrd, Ord)]
+pub struct Spot {
+    /// Sixteenths of a pixel from the picture's left edge, growing to the right.
+    pub x: i64,
+    /// Sixteenths of a pixel from the picture's upper edge, growing downwards.
+    pub y: i64,
+    /// Reversed depth, from 1 to 2^30 - 1: the greater, the nearer.
+    pub z: u32,
+}
+
+/// The size of a picture, from 1 by 1 to 512 by 512.
+#[derive(Clone, Copy, Debug, PartialEq, Eq, PartialOrd, Ord)]
+pub struct Size {
+    /// The number of columns.
+    pub width: u32,
+    /// The number of rows.
+    pub height: u32,
+}
