@@ -1,0 +1,9 @@
+pub mod Boxes
+pub mod Camera
+pub mod Coverage
+pub mod Depth
+pub mod Distance
+pub mod EdgeSum
+pub mod Floor
+pub mod Picture
+pub mod Winding
