@@ -1,7 +1,6 @@
 -- Worked examples of the definitions, computed by the checker.
-use Rattle.std.specs.Prelude.{◌≡◌, ℕ, ◌∷◌, [], List, Option, Some, None, ℤ, pos, negsuc, true, false, filter, refl}
+use Rattle.std.specs.Prelude.{◌≡◌, ℕ, ◌∷◌, [], List, Some, None, ℤ, pos, negsuc, true, false, filter, refl}
 use Rattle.geom_core.specs.declared.points.Pt.{Pt}
-use Rattle.geom_core.specs.declared.boxes.Cube.{Cube}
 use Rattle.geom_core.specs.declared.triangles.Tri.{Tri}
 use Rattle.geom_core.specs.declared.screens.Spot.{Spot}
 use Rattle.geom_core.specs.declared.screens.Size.{Size}
@@ -9,11 +8,11 @@ use Rattle.geom_core.specs.Floor.{floor_div}
 use Rattle.geom_core.specs.Distance.{distance, outside, box_distance}
 use Rattle.geom_core.specs.Boxes.{is_under, holds_point, holds_box, low_of, high_of, join_of, hull_of}
 use Rattle.geom_core.specs.EdgeSum.{same_point, edges_of, edge_count, edge_sum, is_rim_edge}
-use Rattle.geom_core.specs.Camera.{Direction, View, along, on_screen, reversed_depth, spot_of}
+use Rattle.geom_core.specs.Camera.{View, along, on_screen, reversed_depth, spot_of}
 use Rattle.geom_core.specs.Winding.{edge_function, passes, crossing, winding}
 use Rattle.geom_core.specs.Depth.{divisor, weighted, held, depth}
 use Rattle.geom_core.specs.Coverage.{covers, covered, word_at}
-use Rattle.geom_core.specs.Picture.{Item, drawn, greatest_at, picture, items_of}
+use Rattle.geom_core.specs.Picture.{drawn, greatest_at, picture, items_of}
 
 abbrev point : ℤ → ℤ → ℤ → Pt
 point x y z = record { x = x; y = y; z = z }

@@ -1,5 +1,5 @@
 -- The Chebyshev distance, of two points and from a box to a point.
-use Rattle.std.specs.Prelude.{ℕ, ℤ, ◌-ℤ◌, ◌-◌, max, unsigned_abs, int_lt, if◌then◌else◌}
+use Rattle.std.specs.Prelude.{ℕ, ℤ, ◌-ℤ◌, max, unsigned_abs, int_lt, if◌then◌else◌}
 use Rattle.geom_core.specs.declared.points.Pt.{Pt}
 use Rattle.geom_core.specs.declared.boxes.Cube.{Cube}
 

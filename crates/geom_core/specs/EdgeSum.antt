@@ -1,5 +1,5 @@
 -- The edge sum of a list of triangles, and its rim.
-use Rattle.std.specs.Prelude.{◌≡◌, Bool, not, ◌&&◌, ℕ, ℤ, pos, ◌-ℤ◌, List, [], ◌∷◌, flat_map, count_by, IsTrue}
+use Rattle.std.specs.Prelude.{Bool, not, ◌&&◌, ℕ, ℤ, pos, ◌-ℤ◌, List, [], ◌∷◌, flat_map, count_by, IsTrue}
 use Rattle.std.specs.Ordering.{int_eq}
 use Rattle.geom_core.specs.declared.points.Pt.{Pt}
 use Rattle.geom_core.specs.declared.triangles.Tri.{Tri}

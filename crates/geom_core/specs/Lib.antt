@@ -5,5 +5,6 @@ pub mod Depth
 pub mod Distance
 pub mod EdgeSum
 pub mod Floor
+pub mod Order
 pub mod Picture
 pub mod Winding

@@ -1,5 +1,5 @@
 -- The picture of a list of triangles: at each pixel the greatest word drawn there.
-use Rattle.std.specs.Prelude.{ℕ, ◌/◌, ◌%◌, ◌==◌, max, List, [], ◌∷◌, Option, Some, None, map, filter, flat_map, fold}
+use Rattle.std.specs.Prelude.{ℕ, ◌/◌, ◌%◌, ◌==◌, max, List, [], Option, Some, None, map, filter, flat_map, fold}
 use Rattle.std.specs.List.{enumerate_from}
 use Rattle.geom_core.specs.declared.screens.Spot.{Spot}
 use Rattle.geom_core.specs.declared.screens.Size.{Size}

@@ -17,7 +17,7 @@ mod views;
 pub use boxes::Cube;
 pub use digests::Digest32;
 pub use lists::{Nums, Words};
-pub use points::Pt;
+pub use points::{Pt, points_are_ordered};
 pub use screens::{Size, Spot};
 pub use shortage::Memory;
 pub use triangles::{Tagged, Tri};

@@ -73,3 +73,39 @@ impl Words {
         items
     }
 }
+
+#[cfg(test)]
+mod tests {
+    use super::*;
+    use crate::Digest32;
+    use std::test::Fail;
+
+    fn is_shared<T: Send + Sync>(_value: &T) -> bool {
+        true
+    }
+
+    #[test]
+    fn numbers_go_in_and_come_out(rt: HostRuntime) -> Result<(), Fail> {
+        let nums = Nums::of(vec![in rt.alloc(); 3u32, 1, 4_294_967_295]?);
+        assert!(rt; is_shared(&nums));
+        assert_eq!(rt; nums.as_slice(), [3, 1, 4_294_967_295].as_slice());
+        assert_eq!(rt;
+            nums.into_vec().as_slice(),
+            [3, 1, 4_294_967_295].as_slice()
+        );
+
+        let words = Words::of(vec![in rt.alloc(); 7u64, 18_446_744_073_709_551_615]?);
+        assert!(rt; is_shared(&words));
+        assert_eq!(rt;
+            words.as_slice(),
+            [7, 18_446_744_073_709_551_615].as_slice()
+        );
+        assert_eq!(rt;
+            words.into_vec().as_slice(),
+            [7, 18_446_744_073_709_551_615].as_slice()
+        );
+
+        assert!(rt; is_shared(&Digest32 { bytes: [0; 32] }));
+        Ok(())
+    }
+}
