@@ -1,1 +1,4 @@
+pub mod Differences
+pub mod DivisorLaws
 pub mod Examples
+pub mod Signs
