@@ -28,3 +28,15 @@ divisor-same a b c x y x' y' = divisor-is a b c x y ∙ sym (divisor-is a b c x'
 proportion : (u v p q X Y : ℤ) → (u *ℤ Y -ℤ v *ℤ X) *ℤ q ≡ (p *ℤ Y -ℤ q *ℤ X) *ℤ v +ℤ (u *ℤ q -ℤ v *ℤ p) *ℤ Y
 proportion u v p q X Y =
     rw (as_dif u, as_dif v, as_dif p, as_dif q, as_dif X, as_dif Y) (simp difs (omega (arith, dif-same)))
+
+-- with no area, the edge functions of two edges at a corner are in proportion
+pub edges_in_proportion : (a b c : Spot) (x y : ℤ) → divisor a b c x y ≡ pos 0 →
+    edge_function a b x y *ℤ (c.y -ℤ a.y) ≡ edge_function a c x y *ℤ (b.y -ℤ a.y)
+unfolding edge_function
+edges_in_proportion a b c x y flat =
+    let none : edge_function a b c.x c.y ≡ pos 0 = sym (divisor-is a b c x y) ∙ flat in
+    proportion (b.x -ℤ a.x) (b.y -ℤ a.y) (c.x -ℤ a.x) (c.y -ℤ a.y) (x -ℤ a.x) (y -ℤ a.y) ∙
+    rw none (nothing_more (edge_function a c x y *ℤ (b.y -ℤ a.y)) (y -ℤ a.y))
+  where
+    nothing_more : (k m : ℤ) → k +ℤ pos 0 *ℤ m ≡ k
+    nothing_more k m = rw (as_dif k, as_dif m) (simp difs (omega (arith, dif-same)))

@@ -1,3 +1,4 @@
+pub mod Crossings
 pub mod Differences
 pub mod DivisorLaws
 pub mod Examples
