@@ -9,7 +9,7 @@
 -- Imports: {dif, as_dif, difs, dif-same} from here, {up, down} from `borrow.Author.Differences`, `arith` and ◌+◌,
 -- ◌*◌ from `Common`. State the identity over variables of its own, with no record or definition that is stuck.
 -- A product of more than 64 monomials stays closed to `omega`: move the origin first, as in `DivisorLaws`.
-use Rattle.std.proofs.Common.{◌≡◌, ℕ, ◌+◌, ◌*◌, ℤ, pos, negsuc, ◌+ℤ◌, ◌-ℤ◌, ◌*ℤ◌, neg_ℤ, refl, sym, ap, arith}
+use Rattle.std.proofs.Common.{◌≡◌, ℕ, ◌+◌, ◌*◌, ℤ, pos, ◌+ℤ◌, ◌-ℤ◌, ◌*ℤ◌, neg_ℤ, ap, arith}
 use Rattle.std.proofs.lemmas.Int.{ints}
 use borrow.Author.Differences.{up, down, sum_is_lem, neg_is, product_is, same_in}
 
@@ -46,8 +46,12 @@ product_parts u v p q a b c d e f =
     omega arith
 
 pub dif-mul : (a b c d : ℕ) → dif a b *ℤ dif c d ≡ dif (a * c + b * d) (a * d + b * c)
-dif-mul a b c d = same_in (dif a b *ℤ dif c d) (dif (a * c + b * d) (a * d + b * c)) (omega (arith, product_is (dif a b) (dif c d),
-    product_parts (up (dif a b)) (down (dif a b)) (up (dif c d)) (down (dif c d)) a b c d (parts a b) (parts c d), parts (a * c + b * d) (a * d + b * c)))
+dif-mul a b c d = same_in (dif a b *ℤ dif c d) (dif (a * c + b * d) (a * d + b * c)) (omega (
+  arith,
+  product_is (dif a b) (dif c d),
+  product_parts (up (dif a b)) (down (dif a b)) (up (dif c d)) (down (dif c d)) a b c d (parts a b) (parts c d),
+  parts (a * c + b * d) (a * d + b * c),
+))
 
 -- for `omega`: two differences are equal where this equation of natural numbers holds
 pub dif-same : (a b c d : ℕ) → a + d ≡ c + b → dif a b ≡ dif c d

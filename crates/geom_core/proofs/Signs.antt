@@ -1,5 +1,5 @@
 -- The sign of a product of integers, and tests of sign that agree.
-use Rattle.std.proofs.Common.{◌≡◌, ℕ, zero, suc, ◌+◌, ◌*◌, Bool, true, false, ℤ, pos, negsuc, ◌+ℤ◌, ◌-ℤ◌, ◌*ℤ◌, neg_ℤ, ◌<ℤ◌, ◌≤ℤ◌, int_lt, refl, sym, subst, arith}
+use Rattle.std.proofs.Common.{◌≡◌, zero, suc, ℤ, pos, negsuc, ◌*ℤ◌, ◌<ℤ◌, ◌≤ℤ◌, int_lt, sym, arith}
 use Rattle.std.proofs.lemmas.Int.{ints, by_lt_z}
 
 -- a factor that isn't negative keeps the other's sign

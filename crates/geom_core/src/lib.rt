@@ -13,6 +13,7 @@ mod screens;
 mod shortage;
 mod triangles;
 mod views;
+mod windings;
 
 pub use boxes::Cube;
 pub use digests::Digest32;
@@ -22,3 +23,4 @@ pub use screens::{Size, Spot};
 pub use shortage::Memory;
 pub use triangles::{Tagged, Tri};
 pub use views::Lens;
+pub use windings::divisor_is_not_zero;
