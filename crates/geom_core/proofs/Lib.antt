@@ -3,3 +3,4 @@ pub mod Differences
 pub mod DivisorLaws
 pub mod Examples
 pub mod Signs
+pub mod WindingLaws
