@@ -5,11 +5,13 @@
 --     square : (x y : ℤ) → (x +ℤ y) *ℤ (x -ℤ y) ≡ x *ℤ x -ℤ y *ℤ y
 --     square x y = rw (as_dif x, as_dif y) (simp difs (omega (arith, dif-same)))
 -- `as_dif` turns x into `dif (up x) (down x)`, `difs` makes each side one `dif`, and `dif-same` is the equation
--- of natural polynomials that is left. A literal needs no line: `difs` takes `pos n` to `dif n 0`.
--- Imports: {dif, as_dif, difs, dif-same} from here, {up, down} from `borrow.Author.Differences`, `arith` and ◌+◌,
--- ◌*◌ from `Common`. State the identity over variables of its own, with no record or definition that is stuck.
--- A product of more than 64 monomials stays closed to `omega`: move the origin first, as in `DivisorLaws`.
-use Rattle.std.proofs.Common.{◌≡◌, ℕ, ◌+◌, ◌*◌, ℤ, pos, ◌+ℤ◌, ◌-ℤ◌, ◌*ℤ◌, neg_ℤ, ap, arith}
+-- of natural polynomials that is left. Numerals need no line: `difs` takes `pos n` to `dif n 0`, and `negsuc n`
+-- to `dif 0 (suc n)`. Import {as_dif, difs, dif-same} from here, and `arith` from `Common`.
+--
+-- State the identity over variables alone, and apply it to the fields or calls that are meant. `omega` gives up
+-- on a product of more than 64 monomials: move the origin to one of the points first, as `DivisorLaws` does.
+-- For an inequality, prove the identity that leaves sums of products, and take the products' signs from `Signs`.
+use Rattle.std.proofs.Common.{◌≡◌, ℕ, suc, ◌+◌, ◌*◌, ℤ, pos, negsuc, ◌+ℤ◌, ◌-ℤ◌, ◌*ℤ◌, neg_ℤ, ap, arith}
 use Rattle.std.proofs.lemmas.Int.{ints}
 use borrow.Author.Differences.{up, down, sum_is_lem, neg_is, product_is, same_in}
 
@@ -30,6 +32,10 @@ parts m n = omega (arith, ints)
 pub dif-pos : (n : ℕ) → pos n ≡ dif n 0
 unfolding dif
 dif-pos n = omega (arith, ints)
+
+pub dif-negsuc : (n : ℕ) → negsuc n ≡ dif 0 (suc n)
+unfolding dif
+dif-negsuc n = omega (arith, ints)
 
 pub dif-add : (a b c d : ℕ) → dif a b +ℤ dif c d ≡ dif (a + c) (b + d)
 dif-add a b c d = same_in (dif a b +ℤ dif c d) (dif (a + c) (b + d)) (omega (arith, sum_is_lem (dif a b) (dif c d), parts a b, parts c d, parts (a + c) (b + d)))
@@ -58,4 +64,4 @@ pub dif-same : (a b c d : ℕ) → a + d ≡ c + b → dif a b ≡ dif c d
 dif-same a b c d e = same_in (dif a b) (dif c d) (omega (arith, parts a b, parts c d))
 
 -- makes a polynomial of differences one difference
-pub ruleset difs = (dif-add, dif-neg, dif-mul, dif-pos)
+pub ruleset difs = (dif-add, dif-neg, dif-mul, dif-pos, dif-negsuc)
