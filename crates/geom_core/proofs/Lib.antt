@@ -4,4 +4,5 @@ pub mod DivisorLaws
 pub mod Examples
 pub mod FloorLaws
 pub mod Signs
+pub mod SizeLaws
 pub mod WindingLaws
