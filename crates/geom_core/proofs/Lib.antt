@@ -1,4 +1,5 @@
 pub mod Crossings
+pub mod DepthLaws
 pub mod Differences
 pub mod DivisorLaws
 pub mod Examples
