@@ -2,6 +2,7 @@ pub mod Crossings
 pub mod DepthLaws
 pub mod Differences
 pub mod DivisorLaws
+pub mod EdgeSumLaws
 pub mod Examples
 pub mod FloorLaws
 pub mod Signs
