@@ -5,6 +5,7 @@ pub mod DivisorLaws
 pub mod EdgeSumLaws
 pub mod Examples
 pub mod FloorLaws
+pub mod InterpolationLaws
 pub mod Signs
 pub mod SizeLaws
 pub mod WindingLaws
