@@ -1,5 +1,5 @@
 -- The depth at a point lies from the least to the greatest depth of a corner.
-use Rattle.std.proofs.Common.{◌≡◌, ℕ, ◌<◌, ◌≤◌, min, max, ℤ, pos, ◌≤ℤ◌, arith}
+use Rattle.std.proofs.Common.{ap, negsuc, ◌≡◌, ℕ, ◌<◌, ◌≤◌, min, max, ℤ, pos, ◌≤ℤ◌, arith}
 use Rattle.std.proofs.lemmas.Int.{ints, clamps}
 use Rattle.geom_core.specs.declared.screens.Spot.{Spot}
 use Rattle.geom_core.specs.Floor.{floor_div}
@@ -18,6 +18,10 @@ held-to least most z order = omega (arith, ints, clamps)
 pub held-same : (least most z : ℕ) → least ≤ z → z ≤ most → held least most (pos z) ≡ z
 unfolding held
 held-same least most z from to = omega (arith, ints, clamps)
+
+pub held-inside : (least most : ℕ) (z : ℤ) → pos least ≤ℤ z → z ≤ℤ pos most → pos (held least most z) ≡ z
+held-inside least most (pos z) from to = ap pos (held-same least most z (omega (arith, ints)) (omega (arith, ints)))
+held-inside least most (negsuc z) from to = absurd (omega (arith, ints))
 
 pub held-below : (least most : ℕ) (z : ℤ) → least ≤ most → z ≤ℤ pos least → held least most z ≡ least
 unfolding held
