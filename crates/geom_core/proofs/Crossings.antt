@@ -21,11 +21,13 @@ beside s t x y = int_lt (pos 0) (edge_function s t x y)
 not_reached : (y h : ℤ) → int_lt y h ≡ not (int_le h y)
 not_reached y h = grind (arith, ints)
 
-pub crossing-is : (s t : Spot) (x y : ℤ) → crossing s t x y ≡ step (reaches y s) (reaches y t) (beside s t x y) (beside t s x y)
+pub crossing-is : (s t : Spot) (x y : ℤ) → crossing s t x y ≡
+    step (reaches y s) (reaches y t) (beside s t x y) (beside t s x y)
 unfolding crossing passes
 crossing-is s t x y = rw (not_reached y s.y, not_reached y t.y)
 
-pub step-turned : (first second forth back : Bool) → step first second forth back ≡ neg_ℤ (step second first back forth)
+pub step-turned : (first second forth back : Bool) → step first second forth back ≡
+    neg_ℤ (step second first back forth)
 step-turned true true forth back = refl
 step-turned true false true back = refl
 step-turned true false false back = refl
@@ -36,7 +38,8 @@ step-turned false false forth back = refl
 -- an edge crossed the other way counts the other way
 pub crossing-turned : (s t : Spot) (x y : ℤ) → crossing s t x y ≡ neg_ℤ (crossing t s x y)
 crossing-turned s t x y =
-    crossing-is s t x y ∙ step-turned (reaches y s) (reaches y t) (beside s t x y) (beside t s x y) ∙ ap neg_ℤ (sym (crossing-is t s x y))
+    crossing-is s t x y ∙ step-turned (reaches y s) (reaches y t) (beside s t x y) (beside t s x y) ∙
+    ap neg_ℤ (sym (crossing-is t s x y))
 
 -- if the height has reached one corner alone, or all but one, and the point lies on one side of the two
 -- edges at that corner, their crossings cancel

@@ -35,15 +35,18 @@ held-above least most z order above = omega (arith, ints, clamps)
 pub depth-from : (a b c : Spot) (x y : ℤ) → min a.z (min b.z c.z) ≤ depth a b c x y
 unfolding depth
 depth-from a b c x y =
-    held-from (min a.z (min b.z c.z)) (max a.z (max b.z c.z)) (floor_div (weighted a b c x y) (divisor a b c x y)) (omega arith)
+    held-from (min a.z (min b.z c.z)) (max a.z (max b.z c.z))
+    (floor_div (weighted a b c x y) (divisor a b c x y)) (omega arith)
 
 pub depth-to : (a b c : Spot) (x y : ℤ) → depth a b c x y ≤ max a.z (max b.z c.z)
 unfolding depth
 depth-to a b c x y =
-    held-to (min a.z (min b.z c.z)) (max a.z (max b.z c.z)) (floor_div (weighted a b c x y) (divisor a b c x y)) (omega arith)
+    held-to (min a.z (min b.z c.z)) (max a.z (max b.z c.z)) (floor_div (weighted a b c x y) (divisor a b c x y))
+    (omega arith)
 
 -- so it is below whatever the corners' depths are below, as 2^30
-pub depth-below : (a b c : Spot) (x y : ℤ) (bound : ℕ) → a.z < bound → b.z < bound → c.z < bound → depth a b c x y < bound
+pub depth-below : (a b c : Spot) (x y : ℤ) (bound : ℕ) → a.z < bound → b.z < bound → c.z < bound →
+    depth a b c x y < bound
 depth-below a b c x y bound at_a at_b at_c = let k = depth-to a b c x y in omega arith
 
 -- and above 0 where the corners' depths are

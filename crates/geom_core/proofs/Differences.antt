@@ -38,12 +38,14 @@ unfolding dif
 dif-negsuc n = omega (arith, ints)
 
 pub dif-add : (a b c d : ℕ) → dif a b +ℤ dif c d ≡ dif (a + c) (b + d)
-dif-add a b c d = same_in (dif a b +ℤ dif c d) (dif (a + c) (b + d)) (omega (arith, sum_is_lem (dif a b) (dif c d), parts a b, parts c d, parts (a + c) (b + d)))
+dif-add a b c d = same_in (dif a b +ℤ dif c d) (dif (a + c) (b + d))
+    (omega (arith, sum_is_lem (dif a b) (dif c d), parts a b, parts c d, parts (a + c) (b + d)))
 
 pub dif-neg : (a b : ℕ) → neg_ℤ (dif a b) ≡ dif b a
 dif-neg a b = same_in (neg_ℤ (dif a b)) (dif b a) (omega (arith, neg_is (dif a b), parts a b, parts b a))
 
-product_parts : (u v p q a b c d : ℕ) → u + b ≡ v + a → p + d ≡ q + c → u * p + v * q + (a * d + b * c) ≡ u * q + v * p + (a * c + b * d)
+product_parts : (u v p q a b c d : ℕ) → u + b ≡ v + a → p + d ≡ q + c → u * p + v * q + (a * d + b * c) ≡
+    u * q + v * p + (a * c + b * d)
 product_parts u v p q a b c d e f =
     let e₁ : (u + b) * p ≡ (v + a) * p = ap (λ k. k * p) e in
     let e₂ : (u + b) * q ≡ (v + a) * q = ap (λ k. k * q) e in

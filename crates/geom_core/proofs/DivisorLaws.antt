@@ -12,9 +12,11 @@ use Rattle.geom_core.proofs.Crossings.{reaches, beside, steps_cancel, winding-st
 abbrev edge : ℤ → ℤ → ℤ → ℤ → ℤ → ℤ → ℤ
 edge x₁ y₁ x₂ y₂ x y = (x₂ -ℤ x₁) *ℤ (y -ℤ y₁) -ℤ (y₂ -ℤ y₁) *ℤ (x -ℤ x₁)
 
-edges_sum : (x₁ y₁ x₂ y₂ x₃ y₃ x y : ℤ) → edge x₂ y₂ x₃ y₃ x y +ℤ edge x₃ y₃ x₁ y₁ x y +ℤ edge x₁ y₁ x₂ y₂ x y ≡ edge x₁ y₁ x₂ y₂ x₃ y₃
+edges_sum : (x₁ y₁ x₂ y₂ x₃ y₃ x y : ℤ) → edge x₂ y₂ x₃ y₃ x y +ℤ edge x₃ y₃ x₁ y₁ x y +ℤ edge x₁ y₁ x₂ y₂ x y ≡
+    edge x₁ y₁ x₂ y₂ x₃ y₃
 edges_sum x₁ y₁ x₂ y₂ x₃ y₃ x y =
-    rw (as_dif x₁, as_dif y₁, as_dif x₂, as_dif y₂, as_dif x₃, as_dif y₃, as_dif x, as_dif y) (simp difs (omega (arith, dif-same)))
+    rw (as_dif x₁, as_dif y₁, as_dif x₂, as_dif y₂, as_dif x₃, as_dif y₃, as_dif x, as_dif y)
+    (simp difs (omega (arith, dif-same)))
 
 -- the divisor is the third corner's edge function, wherever the point is
 pub divisor-is : (a b c : Spot) (x y : ℤ) → divisor a b c x y ≡ edge_function a b c.x c.y
@@ -55,7 +57,8 @@ pub turned_in_proportion : (a b c : Spot) (x y : ℤ) → divisor a b c x y ≡ 
     edge_function b a x y *ℤ (a.y -ℤ c.y) ≡ edge_function c a x y *ℤ (a.y -ℤ b.y)
 turned_in_proportion a b c x y flat =
     rw (edge_function-turned b a x y, edge_function-turned c a x y)
-    (both_turned (edge_function a b x y) a.y c.y ∙ edges_in_proportion a b c x y flat ∙ sym (both_turned (edge_function a c x y) a.y b.y))
+    (both_turned (edge_function a b x y) a.y c.y ∙ edges_in_proportion a b c x y flat ∙
+    sym (both_turned (edge_function a c x y) a.y b.y))
   where
     both_turned : (k m n : ℤ) → neg_ℤ k *ℤ (m -ℤ n) ≡ k *ℤ (n -ℤ m)
     both_turned k m n = rw (as_dif k, as_dif m, as_dif n) (simp difs (omega (arith, dif-same)))
@@ -87,10 +90,13 @@ winding-flat a b c x y flat =
     let flat_b : divisor b c a x y ≡ pos 0 = divisor-rotated a b c x y ∙ flat in
     let flat_c : divisor c a b x y ≡ pos 0 = divisor-rotated b c a x y ∙ flat_b in
     winding-steps a b c x y ∙
-    steps_cancel (reaches y a) (reaches y b) (reaches y c) (beside a b x y) (beside b a x y) (beside b c x y) (beside c b x y) (beside c a x y) (beside a c x y)
+    steps_cancel (reaches y a) (reaches y b) (reaches y c) (beside a b x y) (beside b a x y) (beside b c x y)
+    (beside c b x y) (beside c a x y) (beside a c x y)
     (beside_same a b c x y flat) (turned_beside_same a b c x y flat)
-    (λ at_b at_c at_a. beside_same b c a x y flat_b at_b at_c at_a) (λ at_b at_c at_a. turned_beside_same b c a x y flat_b at_b at_c at_a)
-    (λ at_c at_a at_b. beside_same c a b x y flat_c at_c at_a at_b) (λ at_c at_a at_b. turned_beside_same c a b x y flat_c at_c at_a at_b)
+    (λ at_b at_c at_a. beside_same b c a x y flat_b at_b at_c at_a)
+    (λ at_b at_c at_a. turned_beside_same b c a x y flat_b at_b at_c at_a)
+    (λ at_c at_a at_b. beside_same c a b x y flat_c at_c at_a at_b)
+    (λ at_c at_a at_b. turned_beside_same c a b x y flat_c at_c at_a at_b)
 
 -- where the winding isn't 0 the depth's division is by no 0
 pub divisor_nonzero : (a b c : Spot) (x y : ℤ) → winding a b c x y ≢ pos 0 → divisor a b c x y ≢ pos 0

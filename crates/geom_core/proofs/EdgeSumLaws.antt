@@ -14,9 +14,11 @@ unfolding edge_count
 edge_count-none u v = refl
 
 -- the edges of two lists are those of one and those of the other
-pub edge_count-append : (some more : List Tri) (u v : Pt) → edge_count (some ++ more) u v ≡ edge_count some u v + edge_count more u v
+pub edge_count-append : (some more : List Tri) (u v : Pt) → edge_count (some ++ more) u v ≡
+    edge_count some u v + edge_count more u v
 unfolding edge_count
-edge_count-append some more u v = rw (flat_map-append edges_of some more) (sum_by-append _ (flat_map edges_of some) (flat_map edges_of more))
+edge_count-append some more u v = rw (flat_map-append edges_of some more)
+    (sum_by-append _ (flat_map edges_of some) (flat_map edges_of more))
 
 -- an edge the other way counts the other way
 pub edge_sum-turned : (tris : List Tri) (u v : Pt) → edge_sum tris v u ≡ neg_ℤ (edge_sum tris u v)
@@ -32,7 +34,8 @@ pub edge_sum-same : (tris : List Tri) (u : Pt) → edge_sum tris u u ≡ pos 0
 unfolding edge_sum
 edge_sum-same tris u = omega (arith, ints)
 
-pub edge_sum-append : (some more : List Tri) (u v : Pt) → edge_sum (some ++ more) u v ≡ edge_sum some u v +ℤ edge_sum more u v
+pub edge_sum-append : (some more : List Tri) (u v : Pt) → edge_sum (some ++ more) u v ≡
+    edge_sum some u v +ℤ edge_sum more u v
 unfolding edge_sum
 edge_sum-append some more u v = omega (arith, ints, edge_count-append some more u v, edge_count-append some more v u)
 
@@ -47,17 +50,20 @@ is_rim_edge-turned tris u v = rw (edge_sum-turned tris u v) (turned (edge_sum tr
 -- ---- one triangle
 
 pub edge_count-one : (t : Tri) (u v : Pt) → edge_count (t ∷ []) u v ≡
-    (if same_point t.a u && same_point t.b v then 1 else 0) + (if same_point t.b u && same_point t.c v then 1 else 0) +
+    (if same_point t.a u && same_point t.b v then 1 else 0) +
+    (if same_point t.b u && same_point t.c v then 1 else 0) +
     (if same_point t.c u && same_point t.a v then 1 else 0)
 unfolding edge_count edges_of
 edge_count-one t u v = omega arith
 
 -- the first triangle and the rest
-pub edge_sum-first : (t : Tri) (tris : List Tri) (u v : Pt) → edge_sum (t ∷ tris) u v ≡ edge_sum (t ∷ []) u v +ℤ edge_sum tris u v
+pub edge_sum-first : (t : Tri) (tris : List Tri) (u v : Pt) → edge_sum (t ∷ tris) u v ≡
+    edge_sum (t ∷ []) u v +ℤ edge_sum tris u v
 edge_sum-first t tris u v = edge_sum-append (t ∷ []) tris u v
 
 -- the corners in turn
-pub edge_sum-rotated : (a b c u v : Pt) → edge_sum (record { a = b; b = c; c = a } ∷ []) u v ≡ edge_sum (record { a = a; b = b; c = c } ∷ []) u v
+pub edge_sum-rotated : (a b c u v : Pt) → edge_sum (record { a = b; b = c; c = a } ∷ []) u v ≡
+    edge_sum (record { a = a; b = b; c = c } ∷ []) u v
 unfolding edge_sum
 edge_sum-rotated a b c u v =
     rw (
@@ -95,11 +101,14 @@ edge_count-sum (t ∷ tris) u v =
     edge_count-append (t ∷ []) tris u v ∙ ap (λ n. edge_count (t ∷ []) u v + n) (edge_count-sum tris u v) ∙
     sym (sum_by-first (λ t. edge_count (t ∷ []) u v) t tris)
 
-edge_count-IsPermutation : (tris others : List Tri) (u v : Pt) → IsPermutation tris others → edge_count others u v ≡ edge_count tris u v
+edge_count-IsPermutation : (tris others : List Tri) (u v : Pt) → IsPermutation tris others →
+    edge_count others u v ≡ edge_count tris u v
 edge_count-IsPermutation tris others u v moved =
-    edge_count-sum others u v ∙ sum_by-IsPermutation (λ t. edge_count (t ∷ []) u v) tris others moved ∙ sym (edge_count-sum tris u v)
+    edge_count-sum others u v ∙ sum_by-IsPermutation (λ t. edge_count (t ∷ []) u v) tris others moved ∙
+    sym (edge_count-sum tris u v)
 
-pub edge_sum-IsPermutation : (tris others : List Tri) (u v : Pt) → IsPermutation tris others → edge_sum others u v ≡ edge_sum tris u v
+pub edge_sum-IsPermutation : (tris others : List Tri) (u v : Pt) → IsPermutation tris others →
+    edge_sum others u v ≡ edge_sum tris u v
 unfolding edge_sum
 edge_sum-IsPermutation tris others u v moved =
     rw (edge_count-IsPermutation tris others u v moved, edge_count-IsPermutation tris others v u moved)

@@ -53,7 +53,8 @@ gap p q d = rw (as_dif p, as_dif q, as_dif d) (simp difs (omega (arith, dif-same
 
 next_product : (p q d : ℤ) → pos 0 <ℤ d → q <ℤ p → (q *ℤ d +ℤ d) ≤ℤ (p *ℤ d)
 next_product p q d h below =
-    let k : pos 0 ≤ℤ ((p -ℤ q -ℤ pos 1) *ℤ d) = product_not_negative (p -ℤ q -ℤ pos 1) d (omega (arith, ints)) (omega (arith, ints)) in
+    let k : pos 0 ≤ℤ ((p -ℤ q -ℤ pos 1) *ℤ d) = product_not_negative (p -ℤ q -ℤ pos 1) d (omega (arith, ints))
+    (omega (arith, ints)) in
     apart (p *ℤ d) (q *ℤ d +ℤ d) (rw gap at k)
   where
     apart : (k m : ℤ) → pos 0 ≤ℤ (k -ℤ m) → m ≤ℤ k
@@ -65,13 +66,15 @@ clash k m n h i j = omega (arith, ints)
 pub floor_div-at_least : (n d q : ℤ) → pos 0 <ℤ d → (q *ℤ d) ≤ℤ n → q ≤ℤ floor_div n d
 floor_div-at_least n d q h from =
     by_lt_z (floor_div n d) q
-    (λ below. absurd (clash (q *ℤ d) (floor_div n d *ℤ d +ℤ d) n from (to_lemma n d h) (next_product q (floor_div n d) d h below)))
+    (λ below. absurd (clash (q *ℤ d) (floor_div n d *ℤ d +ℤ d) n from (to_lemma n d h)
+    (next_product q (floor_div n d) d h below)))
     (λ at_most. at_most)
 
 pub floor_div-at_most : (n d q : ℤ) → pos 0 <ℤ d → n <ℤ ((q +ℤ pos 1) *ℤ d) → floor_div n d ≤ℤ q
 floor_div-at_most n d q h to =
     by_lt_z q (floor_div n d)
-    (λ below. absurd (clash (floor_div n d *ℤ d) (q *ℤ d +ℤ d) n (floor_div-from n d h) (rw one_more at to) (next_product (floor_div n d) q d h below)))
+    (λ below. absurd (clash (floor_div n d *ℤ d) (q *ℤ d +ℤ d) n (floor_div-from n d h) (rw one_more at to)
+    (next_product (floor_div n d) q d h below)))
     (λ at_most. at_most)
 
 -- the quotient is the only number in that place

@@ -17,7 +17,8 @@ use Rattle.geom_core.proofs.DepthLaws.{held-inside}
 -- ---- the sign of a factor
 
 factor_positive : (p u : ℤ) → pos 0 ≤ℤ u → pos 0 <ℤ (p *ℤ u) → pos 0 <ℤ p
-factor_positive p u h k = by_lt_z (pos 0) p (λ yes. yes) (λ no. absurd (clash (p *ℤ u) k (product_not_positive p u no h)))
+factor_positive p u h k = by_lt_z (pos 0) p (λ yes. yes)
+    (λ no. absurd (clash (p *ℤ u) k (product_not_positive p u no h)))
   where
     clash : (z : ℤ) → pos 0 <ℤ z → z ≤ℤ pos 0 → ⊥
     clash z i j = omega (arith, ints)
@@ -28,7 +29,8 @@ turned_factor p u = rw (as_dif p, as_dif u) (simp difs (omega (arith, dif-same))
 factor_not_negative : (p u : ℤ) → pos 0 <ℤ u → pos 0 ≤ℤ (p *ℤ u) → pos 0 ≤ℤ p
 factor_not_negative p u h k =
     by_lt_z p (pos 0)
-    (λ below. let m = product_positive (neg_ℤ p) u (omega (arith, ints)) h in absurd (clash (p *ℤ u) k (rw turned_factor at m)))
+    (λ below. let m = product_positive (neg_ℤ p) u (omega (arith, ints)) h in
+    absurd (clash (p *ℤ u) k (rw turned_factor at m)))
     (λ yes. yes)
   where
     clash : (z : ℤ) → pos 0 ≤ℤ z → pos 0 <ℤ neg_ℤ z → ⊥
@@ -36,22 +38,26 @@ factor_not_negative p u h k =
 
 -- ---- edge functions seen from the point
 
-crossed : (x₁ y₁ x₂ y₂ x y : ℤ) → (x₂ -ℤ x₁) *ℤ (y -ℤ y₁) -ℤ (y₂ -ℤ y₁) *ℤ (x -ℤ x₁) ≡ (x₁ -ℤ x) *ℤ (y₂ -ℤ y) -ℤ (x₂ -ℤ x) *ℤ (y₁ -ℤ y)
+crossed : (x₁ y₁ x₂ y₂ x y : ℤ) → (x₂ -ℤ x₁) *ℤ (y -ℤ y₁) -ℤ (y₂ -ℤ y₁) *ℤ (x -ℤ x₁) ≡
+    (x₁ -ℤ x) *ℤ (y₂ -ℤ y) -ℤ (x₂ -ℤ x) *ℤ (y₁ -ℤ y)
 crossed x₁ y₁ x₂ y₂ x y =
     rw (as_dif x₁, as_dif y₁, as_dif x₂, as_dif y₂, as_dif x, as_dif y) (simp difs (omega (arith, dif-same)))
 
 -- the edge function is the cross product of the ends as seen from the point
-pub edge_function-crossed : (s t : Spot) (x y : ℤ) → edge_function s t x y ≡ (s.x -ℤ x) *ℤ (t.y -ℤ y) -ℤ (t.x -ℤ x) *ℤ (s.y -ℤ y)
+pub edge_function-crossed : (s t : Spot) (x y : ℤ) → edge_function s t x y ≡
+    (s.x -ℤ x) *ℤ (t.y -ℤ y) -ℤ (t.x -ℤ x) *ℤ (s.y -ℤ y)
 unfolding edge_function
 edge_function-crossed s t x y = crossed s.x s.y t.x t.y x y
 
-balance : (a₁ a₂ b₁ b₂ c₁ c₂ : ℤ) → (b₁ *ℤ c₂ -ℤ c₁ *ℤ b₂) *ℤ neg_ℤ a₂ ≡ (c₁ *ℤ a₂ -ℤ a₁ *ℤ c₂) *ℤ b₂ +ℤ (a₁ *ℤ b₂ -ℤ b₁ *ℤ a₂) *ℤ c₂
+balance : (a₁ a₂ b₁ b₂ c₁ c₂ : ℤ) → (b₁ *ℤ c₂ -ℤ c₁ *ℤ b₂) *ℤ neg_ℤ a₂ ≡
+    (c₁ *ℤ a₂ -ℤ a₁ *ℤ c₂) *ℤ b₂ +ℤ (a₁ *ℤ b₂ -ℤ b₁ *ℤ a₂) *ℤ c₂
 balance a₁ a₂ b₁ b₂ c₁ c₂ =
     rw (as_dif a₁, as_dif a₂, as_dif b₁, as_dif b₂, as_dif c₁, as_dif c₂) (simp difs (omega (arith, dif-same)))
 
 -- the heights of the corners, weighted by the edge functions, balance about the point
 pub edges_balance : (a b c : Spot) (x y : ℤ) →
-    edge_function b c x y *ℤ neg_ℤ (a.y -ℤ y) ≡ edge_function c a x y *ℤ (b.y -ℤ y) +ℤ edge_function a b x y *ℤ (c.y -ℤ y)
+    edge_function b c x y *ℤ neg_ℤ (a.y -ℤ y) ≡
+    edge_function c a x y *ℤ (b.y -ℤ y) +ℤ edge_function a b x y *ℤ (c.y -ℤ y)
 edges_balance a b c x y =
     rw (edge_function-crossed b c x y, edge_function-crossed c a x y, edge_function-crossed a b x y)
     (balance (a.x -ℤ x) (a.y -ℤ y) (b.x -ℤ x) (b.y -ℤ y) (c.x -ℤ x) (c.y -ℤ y))
@@ -78,7 +84,8 @@ from_one a b c x y at_a at_b at_c beside_b beside_c =
     let across_b : pos 0 ≤ℤ edge_function c a x y = rw (edge_function-turned c a x y) (omega (arith, ints)) in
     let part_b = product_not_negative (edge_function c a x y) (b.y -ℤ y) across_b (omega (arith, ints)) in
     let part_c = product_positive (edge_function a b x y) (c.y -ℤ y) beside_b (omega (arith, ints)) in
-    let sum = sum_positive (edge_function c a x y *ℤ (b.y -ℤ y)) (edge_function a b x y *ℤ (c.y -ℤ y)) part_b part_c in
+    let sum = sum_positive (edge_function c a x y *ℤ (b.y -ℤ y)) (edge_function a b x y *ℤ (c.y -ℤ y)) part_b
+    part_c in
     let product : pos 0 <ℤ (edge_function b c x y *ℤ neg_ℤ (a.y -ℤ y)) = rw edges_balance sum in
     let across_a = factor_positive (edge_function b c x y) (neg_ℤ (a.y -ℤ y)) (omega (arith, ints)) product in
     record { first = omega (arith, ints); second = across_b; third = omega (arith, ints) }
@@ -95,7 +102,8 @@ to_one a b c x y at_a at_b at_c beside_b beside_c =
     let part_b = product_not_positive_right (edge_function c a x y) (b.y -ℤ y) across_b (omega (arith, ints)) in
     let part_c = product_not_positive_right (edge_function a b x y) (c.y -ℤ y) across_c (omega (arith, ints)) in
     let across_a = factor_not_negative (edge_function b c x y) (a.y -ℤ y) (omega (arith, ints))
-    (turned_sum (edge_function b c x y) (a.y -ℤ y) (edge_function c a x y *ℤ (b.y -ℤ y)) (edge_function a b x y *ℤ (c.y -ℤ y)) (edges_balance a b c x y) part_b part_c) in
+    (turned_sum (edge_function b c x y) (a.y -ℤ y) (edge_function c a x y *ℤ (b.y -ℤ y))
+    (edge_function a b x y *ℤ (c.y -ℤ y)) (edges_balance a b c x y) part_b part_c) in
     record { first = across_a; second = across_b; third = across_c }
   where
     product_not_positive_right : (p q : ℤ) → pos 0 ≤ℤ p → q ≤ℤ pos 0 → (p *ℤ q) ≤ℤ pos 0
@@ -108,7 +116,8 @@ to_one a b c x y at_a at_b at_c beside_b beside_c =
     factor_turned p u = rw (as_dif p, as_dif u) (simp difs (omega (arith, dif-same)))
 
     turned_sum : (p u k m : ℤ) → p *ℤ neg_ℤ u ≡ k +ℤ m → k ≤ℤ pos 0 → m ≤ℤ pos 0 → pos 0 ≤ℤ (p *ℤ u)
-    turned_sum p u k m e i j = let f : neg_ℤ (p *ℤ u) ≡ k +ℤ m = sym (factor_turned p u) ∙ e in settle (p *ℤ u) k m f i j
+    turned_sum p u k m e i j = let f : neg_ℤ (p *ℤ u) ≡ k +ℤ m = sym (factor_turned p u) ∙ e in
+        settle (p *ℤ u) k m f i j
       where
         settle : (z k m : ℤ) → neg_ℤ z ≡ k +ℤ m → k ≤ℤ pos 0 → m ≤ℤ pos 0 → pos 0 ≤ℤ z
         settle z k m f i j = omega (arith, ints)
@@ -119,22 +128,29 @@ abbrev AtCorner : Type 0 → Bool → Bool → Bool → Bool → Bool → Bool �
 AtCorner P a b c ab ba ca ac =
     (a ≡ true → b ≡ false → c ≡ false → ab ≢ ac → P) × (a ≡ false → b ≡ true → c ≡ true → ba ≢ ca → P)
 
-by_corners : (P : Type 0) (a b c ab ba bc cb ca ac : Bool) → step a b ab ba +ℤ step b c bc cb +ℤ step c a ca ac ≢ pos 0 →
+by_corners : (P : Type 0) (a b c ab ba bc cb ca ac : Bool) →
+    step a b ab ba +ℤ step b c bc cb +ℤ step c a ca ac ≢ pos 0 →
     AtCorner P a b c ab ba ca ac → AtCorner P b c a bc cb ab ba → AtCorner P c a b ca ac bc cb → P
 by_corners P true true true ab ba bc cb ca ac round at_a at_b at_c = absurd (round refl)
 by_corners P false false false ab ba bc cb ca ac round at_a at_b at_c = absurd (round refl)
 by_corners P true false false ab ba bc cb ca ac round at_a at_b at_c = at_a.0 refl refl refl (λ e. round (steps_cancel
-    true false false ab ba bc cb ca ac (λ i j k. e) (λ i j k. cc) (λ i j k. cc) (λ i j k. cc) (λ i j k. cc) (λ i j k. cc)))
+    true false false ab ba bc cb ca ac (λ i j k. e) (λ i j k. cc) (λ i j k. cc) (λ i j k. cc) (λ i j k. cc)
+    (λ i j k. cc)))
 by_corners P false true true ab ba bc cb ca ac round at_a at_b at_c = at_a.1 refl refl refl (λ e. round (steps_cancel
-    false true true ab ba bc cb ca ac (λ i j k. cc) (λ i j k. e) (λ i j k. cc) (λ i j k. cc) (λ i j k. cc) (λ i j k. cc)))
+    false true true ab ba bc cb ca ac (λ i j k. cc) (λ i j k. e) (λ i j k. cc) (λ i j k. cc) (λ i j k. cc)
+    (λ i j k. cc)))
 by_corners P false true false ab ba bc cb ca ac round at_a at_b at_c = at_b.0 refl refl refl (λ e. round (steps_cancel
-    false true false ab ba bc cb ca ac (λ i j k. cc) (λ i j k. cc) (λ i j k. e) (λ i j k. cc) (λ i j k. cc) (λ i j k. cc)))
+    false true false ab ba bc cb ca ac (λ i j k. cc) (λ i j k. cc) (λ i j k. e) (λ i j k. cc) (λ i j k. cc)
+    (λ i j k. cc)))
 by_corners P true false true ab ba bc cb ca ac round at_a at_b at_c = at_b.1 refl refl refl (λ e. round (steps_cancel
-    true false true ab ba bc cb ca ac (λ i j k. cc) (λ i j k. cc) (λ i j k. cc) (λ i j k. e) (λ i j k. cc) (λ i j k. cc)))
+    true false true ab ba bc cb ca ac (λ i j k. cc) (λ i j k. cc) (λ i j k. cc) (λ i j k. e) (λ i j k. cc)
+    (λ i j k. cc)))
 by_corners P false false true ab ba bc cb ca ac round at_a at_b at_c = at_c.0 refl refl refl (λ e. round (steps_cancel
-    false false true ab ba bc cb ca ac (λ i j k. cc) (λ i j k. cc) (λ i j k. cc) (λ i j k. cc) (λ i j k. e) (λ i j k. cc)))
+    false false true ab ba bc cb ca ac (λ i j k. cc) (λ i j k. cc) (λ i j k. cc) (λ i j k. cc) (λ i j k. e)
+    (λ i j k. cc)))
 by_corners P true true false ab ba bc cb ca ac round at_a at_b at_c = at_c.1 refl refl refl (λ e. round (steps_cancel
-    true true false ab ba bc cb ca ac (λ i j k. cc) (λ i j k. cc) (λ i j k. cc) (λ i j k. cc) (λ i j k. cc) (λ i j k. e)))
+    true true false ab ba bc cb ca ac (λ i j k. cc) (λ i j k. cc) (λ i j k. cc) (λ i j k. cc) (λ i j k. cc)
+    (λ i j k. e)))
 
 apart : (p q : Bool) → p ≢ q → ((p ≡ true) × (q ≡ false)) ⊎ ((p ≡ false) × (q ≡ true))
 apart true true h = absurd (h refl)
@@ -146,17 +162,21 @@ turns_at_one : (a b c : Spot) (x y : ℤ) → reaches y a ≡ true → reaches y
     ((beside a b x y ≡ true) × (beside a c x y ≡ false)) ⊎ ((beside a b x y ≡ false) × (beside a c x y ≡ true)) →
     TurnsForth a b c x y ⊎ TurnsForth a c b x y
 turns_at_one a b c x y of_a of_b of_c (inl sides) =
-    inl (from_one a b c x y (omega (arith, ints)) (omega (arith, ints)) (omega (arith, ints)) (omega (arith, ints)) (omega (arith, ints)))
+    inl (from_one a b c x y (omega (arith, ints)) (omega (arith, ints)) (omega (arith, ints))
+    (omega (arith, ints)) (omega (arith, ints)))
 turns_at_one a b c x y of_a of_b of_c (inr sides) =
-    inr (from_one a c b x y (omega (arith, ints)) (omega (arith, ints)) (omega (arith, ints)) (omega (arith, ints)) (omega (arith, ints)))
+    inr (from_one a c b x y (omega (arith, ints)) (omega (arith, ints)) (omega (arith, ints))
+    (omega (arith, ints)) (omega (arith, ints)))
 
 turns_at_other : (a b c : Spot) (x y : ℤ) → reaches y a ≡ false → reaches y b ≡ true → reaches y c ≡ true →
     ((beside b a x y ≡ true) × (beside c a x y ≡ false)) ⊎ ((beside b a x y ≡ false) × (beside c a x y ≡ true)) →
     TurnsForth a b c x y ⊎ TurnsForth a c b x y
 turns_at_other a b c x y of_a of_b of_c (inl sides) =
-    inr (to_one a c b x y (omega (arith, ints)) (omega (arith, ints)) (omega (arith, ints)) (omega (arith, ints)) (omega (arith, ints)))
+    inr (to_one a c b x y (omega (arith, ints)) (omega (arith, ints)) (omega (arith, ints))
+    (omega (arith, ints)) (omega (arith, ints)))
 turns_at_other a b c x y of_a of_b of_c (inr sides) =
-    inl (to_one a b c x y (omega (arith, ints)) (omega (arith, ints)) (omega (arith, ints)) (omega (arith, ints)) (omega (arith, ints)))
+    inl (to_one a b c x y (omega (arith, ints)) (omega (arith, ints)) (omega (arith, ints))
+    (omega (arith, ints)) (omega (arith, ints)))
 
 turns_at : (a b c : Spot) (x y : ℤ) → AtCorner (TurnsForth a b c x y ⊎ TurnsForth a c b x y)
     (reaches y a) (reaches y b) (reaches y c) (beside a b x y) (beside b a x y) (beside c a x y) (beside a c x y)
@@ -165,7 +185,8 @@ turns_at a b c x y = (
   (λ of_a of_b of_c differ. turns_at_other a b c x y of_a of_b of_c (apart (beside b a x y) (beside c a x y) differ)),
 )
 
-either_rotated : (a b c : Spot) (x y : ℤ) → TurnsForth b c a x y ⊎ TurnsForth b a c x y → TurnsForth a b c x y ⊎ TurnsForth a c b x y
+either_rotated : (a b c : Spot) (x y : ℤ) → TurnsForth b c a x y ⊎ TurnsForth b a c x y →
+    TurnsForth a b c x y ⊎ TurnsForth a c b x y
 either_rotated a b c x y (inl h) = inl (turns_rotated a b c x y h)
 either_rotated a b c x y (inr h) = inr (turns_rotated a c b x y (turns_rotated c b a x y h))
 
@@ -175,17 +196,23 @@ winding-turns a b c x y round =
     by_corners (TurnsForth a b c x y ⊎ TurnsForth a c b x y) (reaches y a) (reaches y b) (reaches y c)
     (beside a b x y) (beside b a x y) (beside b c x y) (beside c b x y) (beside c a x y) (beside a c x y)
     (λ e. round (winding-steps a b c x y ∙ e))
-    (turns_at a b c x y)
-    ((λ i j k l. either_rotated a b c x y ((turns_at b c a x y).0 i j k l)), (λ i j k l. either_rotated a b c x y ((turns_at b c a x y).1 i j k l)))
-    ((λ i j k l. either_rotated a b c x y (either_rotated b c a x y ((turns_at c a b x y).0 i j k l))), (λ i j k l. either_rotated a b c x y (either_rotated b c a x y ((turns_at c a b x y).1 i j k l))))
+    (turns_at a b c x y) (
+      (λ i j k l. either_rotated a b c x y ((turns_at b c a x y).0 i j k l)),
+      (λ i j k l. either_rotated a b c x y ((turns_at b c a x y).1 i j k l)),
+    ) (
+      (λ i j k l. either_rotated a b c x y (either_rotated b c a x y ((turns_at c a b x y).0 i j k l))),
+      (λ i j k l. either_rotated a b c x y (either_rotated b c a x y ((turns_at c a b x y).1 i j k l))),
+    )
 
 -- ---- the mean of three depths
 
-least_part : (p q r l k m n : ℤ) → p *ℤ k +ℤ q *ℤ m +ℤ r *ℤ n ≡ l *ℤ (p +ℤ q +ℤ r) +ℤ (p *ℤ (k -ℤ l) +ℤ q *ℤ (m -ℤ l) +ℤ r *ℤ (n -ℤ l))
+least_part : (p q r l k m n : ℤ) → p *ℤ k +ℤ q *ℤ m +ℤ r *ℤ n ≡
+    l *ℤ (p +ℤ q +ℤ r) +ℤ (p *ℤ (k -ℤ l) +ℤ q *ℤ (m -ℤ l) +ℤ r *ℤ (n -ℤ l))
 least_part p q r l k m n =
     rw (as_dif p, as_dif q, as_dif r, as_dif l, as_dif k, as_dif m, as_dif n) (simp difs (omega (arith, dif-same)))
 
-most_part : (p q r l k m n : ℤ) → (l +ℤ pos 1) *ℤ (p +ℤ q +ℤ r) ≡ (p *ℤ k +ℤ q *ℤ m +ℤ r *ℤ n) +ℤ (p *ℤ (l -ℤ k) +ℤ q *ℤ (l -ℤ m) +ℤ r *ℤ (l -ℤ n)) +ℤ (p +ℤ q +ℤ r)
+most_part : (p q r l k m n : ℤ) → (l +ℤ pos 1) *ℤ (p +ℤ q +ℤ r) ≡
+    (p *ℤ k +ℤ q *ℤ m +ℤ r *ℤ n) +ℤ (p *ℤ (l -ℤ k) +ℤ q *ℤ (l -ℤ m) +ℤ r *ℤ (l -ℤ n)) +ℤ (p +ℤ q +ℤ r)
 most_part p q r l k m n =
     rw (as_dif p, as_dif q, as_dif r, as_dif l, as_dif k, as_dif m, as_dif n) (simp difs (omega (arith, dif-same)))
 
@@ -196,7 +223,8 @@ mean_from p q r l k m n weights total h i j =
     floor_div-at_least (p *ℤ k +ℤ q *ℤ m +ℤ r *ℤ n) (p +ℤ q +ℤ r) l total
     (rw (least_part p q r l k m n)
     (more (l *ℤ (p +ℤ q +ℤ r)) (p *ℤ (k -ℤ l)) (q *ℤ (m -ℤ l)) (r *ℤ (n -ℤ l))
-    (product_not_negative p (k -ℤ l) weights.first (omega (arith, ints))) (product_not_negative q (m -ℤ l) weights.second (omega (arith, ints)))
+    (product_not_negative p (k -ℤ l) weights.first (omega (arith, ints)))
+    (product_not_negative q (m -ℤ l) weights.second (omega (arith, ints)))
     (product_not_negative r (n -ℤ l) weights.third (omega (arith, ints)))))
   where
     more : (s t u v : ℤ) → pos 0 ≤ℤ t → pos 0 ≤ℤ u → pos 0 ≤ℤ v → s ≤ℤ (s +ℤ (t +ℤ u +ℤ v))
@@ -208,7 +236,8 @@ mean_to p q r l k m n weights total h i j =
     floor_div-at_most (p *ℤ k +ℤ q *ℤ m +ℤ r *ℤ n) (p +ℤ q +ℤ r) l total
     (rw (most_part p q r l k m n)
     (more (p *ℤ k +ℤ q *ℤ m +ℤ r *ℤ n) (p *ℤ (l -ℤ k)) (q *ℤ (l -ℤ m)) (r *ℤ (l -ℤ n)) (p +ℤ q +ℤ r)
-    (product_not_negative p (l -ℤ k) weights.first (omega (arith, ints))) (product_not_negative q (l -ℤ m) weights.second (omega (arith, ints)))
+    (product_not_negative p (l -ℤ k) weights.first (omega (arith, ints)))
+    (product_not_negative q (l -ℤ m) weights.second (omega (arith, ints)))
     (product_not_negative r (l -ℤ n) weights.third (omega (arith, ints))) total))
   where
     more : (s t u v w : ℤ) → pos 0 ≤ℤ t → pos 0 ≤ℤ u → pos 0 ≤ℤ v → pos 0 <ℤ w → s <ℤ (s +ℤ (t +ℤ u +ℤ v) +ℤ w)
@@ -236,7 +265,8 @@ positive_sum p q r weights nonzero = positive (p +ℤ q +ℤ r) (sum_from p q r 
     positive d h n = omega (arith, ints)
 
 mean_between : (p q r k m n least most : ℤ) → NoneNegative p q r → p +ℤ q +ℤ r ≢ pos 0 →
-    Between least most k → Between least most m → Between least most n → Between least most (floor_div (p *ℤ k +ℤ q *ℤ m +ℤ r *ℤ n) (p +ℤ q +ℤ r))
+    Between least most k → Between least most m → Between least most n →
+    Between least most (floor_div (p *ℤ k +ℤ q *ℤ m +ℤ r *ℤ n) (p +ℤ q +ℤ r))
 mean_between p q r k m n least most weights nonzero of_k of_m of_n =
     let total = positive_sum p q r weights nonzero in
     record {
@@ -244,11 +274,18 @@ mean_between p q r k m n least most weights nonzero of_k of_m of_n =
       to = mean_to p q r most k m n weights total of_k.to of_m.to of_n.to;
     }
 
-turned_mean_between : (p q r k m n least most : ℤ) → NoneNegative (neg_ℤ p) (neg_ℤ q) (neg_ℤ r) → p +ℤ q +ℤ r ≢ pos 0 →
-    Between least most k → Between least most m → Between least most n → Between least most (floor_div (p *ℤ k +ℤ q *ℤ m +ℤ r *ℤ n) (p +ℤ q +ℤ r))
+turned_mean_between : (p q r k m n least most : ℤ) → NoneNegative (neg_ℤ p) (neg_ℤ q) (neg_ℤ r) →
+    p +ℤ q +ℤ r ≢ pos 0 →
+    Between least most k → Between least most m → Between least most n →
+    Between least most (floor_div (p *ℤ k +ℤ q *ℤ m +ℤ r *ℤ n) (p +ℤ q +ℤ r))
 turned_mean_between p q r k m n least most weights nonzero of_k of_m of_n =
-    rw (← floor_div-turned (p *ℤ k +ℤ q *ℤ m +ℤ r *ℤ n) (p +ℤ q +ℤ r) nonzero, mean_turned p q r k m n, sum_turned p q r)
-    (mean_between (neg_ℤ p) (neg_ℤ q) (neg_ℤ r) k m n least most weights (λ e. nonzero (settle (p +ℤ q +ℤ r) (sum_turned p q r ∙ e))) of_k of_m of_n)
+    rw (
+      ← floor_div-turned (p *ℤ k +ℤ q *ℤ m +ℤ r *ℤ n) (p +ℤ q +ℤ r) nonzero,
+      mean_turned p q r k m n,
+      sum_turned p q r,
+    )
+    (mean_between (neg_ℤ p) (neg_ℤ q) (neg_ℤ r) k m n least most weights
+    (λ e. nonzero (settle (p +ℤ q +ℤ r) (sum_turned p q r ∙ e))) of_k of_m of_n)
   where
     settle : (d : ℤ) → neg_ℤ d ≡ pos 0 → d ≡ pos 0
     settle d e = omega (arith, ints)
@@ -266,22 +303,28 @@ turned_weights a b c x y h = record {
     twice : (k : ℤ) → pos 0 ≤ℤ k → pos 0 ≤ℤ neg_ℤ (neg_ℤ k)
     twice k i = omega (arith, ints)
 
-quotient_between : (a b c : Spot) (x y least most : ℤ) → TurnsForth a b c x y ⊎ TurnsForth a c b x y → divisor a b c x y ≢ pos 0 →
+means_between : (a b c : Spot) (x y least most : ℤ) → TurnsForth a b c x y ⊎ TurnsForth a c b x y →
+    divisor a b c x y ≢ pos 0 →
     Between least most (pos a.z) → Between least most (pos b.z) → Between least most (pos c.z) →
     Between least most (floor_div (weighted a b c x y) (divisor a b c x y))
 unfolding weighted divisor
-quotient_between a b c x y least most (inl h) nonzero of_a of_b of_c =
-    mean_between (edge_function b c x y) (edge_function c a x y) (edge_function a b x y) (pos a.z) (pos b.z) (pos c.z) least most h nonzero of_a of_b of_c
-quotient_between a b c x y least most (inr h) nonzero of_a of_b of_c =
-    turned_mean_between (edge_function b c x y) (edge_function c a x y) (edge_function a b x y) (pos a.z) (pos b.z) (pos c.z) least most
+means_between a b c x y least most (inl h) nonzero of_a of_b of_c =
+    mean_between (edge_function b c x y) (edge_function c a x y) (edge_function a b x y) (pos a.z) (pos b.z)
+    (pos c.z) least most h nonzero of_a of_b of_c
+means_between a b c x y least most (inr h) nonzero of_a of_b of_c =
+    turned_mean_between (edge_function b c x y) (edge_function c a x y) (edge_function a b x y) (pos a.z)
+    (pos b.z) (pos c.z) least most
     (turned_weights a b c x y h) nonzero of_a of_b of_c
 
 -- where the triangle winds round the point, the quotient lies between the corners' depths
 pub quotient-between : (a b c : Spot) (x y : ℤ) → winding a b c x y ≢ pos 0 →
-    Between (pos (min a.z (min b.z c.z))) (pos (max a.z (max b.z c.z))) (floor_div (weighted a b c x y) (divisor a b c x y))
+    Between (pos (min a.z (min b.z c.z))) (pos (max a.z (max b.z c.z)))
+    (floor_div (weighted a b c x y) (divisor a b c x y))
 quotient-between a b c x y round =
-    quotient_between a b c x y (pos (min a.z (min b.z c.z))) (pos (max a.z (max b.z c.z))) (winding-turns a b c x y round) (divisor_nonzero a b c x y round)
-    (record { from = omega (arith, ints); to = omega (arith, ints) }) (record { from = omega (arith, ints); to = omega (arith, ints) })
+    means_between a b c x y (pos (min a.z (min b.z c.z))) (pos (max a.z (max b.z c.z)))
+    (winding-turns a b c x y round) (divisor_nonzero a b c x y round)
+    (record { from = omega (arith, ints); to = omega (arith, ints) })
+    (record { from = omega (arith, ints); to = omega (arith, ints) })
     (record { from = omega (arith, ints); to = omega (arith, ints) })
 
 -- so the depth is the quotient itself, and nothing is held
@@ -290,7 +333,8 @@ pub depth-quotient : (a b c : Spot) (x y : ℤ) → winding a b c x y ≢ pos 0 
 unfolding depth
 depth-quotient a b c x y round =
     let place = quotient-between a b c x y round in
-    held-inside (min a.z (min b.z c.z)) (max a.z (max b.z c.z)) (floor_div (weighted a b c x y) (divisor a b c x y)) place.from place.to
+    held-inside (min a.z (min b.z c.z)) (max a.z (max b.z c.z))
+    (floor_div (weighted a b c x y) (divisor a b c x y)) place.from place.to
 
 -- ---- the weighted sum there
 
@@ -299,20 +343,26 @@ numerator_size : (p q r : ℤ) (k m n most : ℕ) → NoneNegative p q r → k �
     unsigned_abs (p *ℤ pos k +ℤ q *ℤ pos m +ℤ r *ℤ pos n) ≤ most * unsigned_abs (p +ℤ q +ℤ r)
 numerator_size p q r k m n most weights h i j =
     let lower = sum_from (p *ℤ pos k) (q *ℤ pos m) (r *ℤ pos n)
-    (product_not_negative p (pos k) weights.first (omega (arith, ints))) (product_not_negative q (pos m) weights.second (omega (arith, ints)))
+    (product_not_negative p (pos k) weights.first (omega (arith, ints)))
+    (product_not_negative q (pos m) weights.second (omega (arith, ints)))
     (product_not_negative r (pos n) weights.third (omega (arith, ints))) in
     let rest = sum_from (p *ℤ (pos most -ℤ pos k)) (q *ℤ (pos most -ℤ pos m)) (r *ℤ (pos most -ℤ pos n))
-    (product_not_negative p (pos most -ℤ pos k) weights.first (omega (arith, ints))) (product_not_negative q (pos most -ℤ pos m) weights.second (omega (arith, ints)))
+    (product_not_negative p (pos most -ℤ pos k) weights.first (omega (arith, ints)))
+    (product_not_negative q (pos most -ℤ pos m) weights.second (omega (arith, ints)))
     (product_not_negative r (pos most -ℤ pos n) weights.third (omega (arith, ints))) in
-    subst (λ size. unsigned_abs (p *ℤ pos k +ℤ q *ℤ pos m +ℤ r *ℤ pos n) ≤ size) (unsigned_abs-mul (pos most) (p +ℤ q +ℤ r))
-    (within (p *ℤ pos k +ℤ q *ℤ pos m +ℤ r *ℤ pos n) (pos most *ℤ (p +ℤ q +ℤ r)) _ (whole p q r (pos most) (pos k) (pos m) (pos n)) lower rest)
+    subst (λ size. unsigned_abs (p *ℤ pos k +ℤ q *ℤ pos m +ℤ r *ℤ pos n) ≤ size)
+    (unsigned_abs-mul (pos most) (p +ℤ q +ℤ r))
+    (within (p *ℤ pos k +ℤ q *ℤ pos m +ℤ r *ℤ pos n) (pos most *ℤ (p +ℤ q +ℤ r)) _
+    (whole p q r (pos most) (pos k) (pos m) (pos n)) lower rest)
   where
     sum_from : (s t u : ℤ) → pos 0 ≤ℤ s → pos 0 ≤ℤ t → pos 0 ≤ℤ u → pos 0 ≤ℤ (s +ℤ t +ℤ u)
     sum_from s t u h i j = omega (arith, ints)
 
-    whole : (p q r l k m n : ℤ) → l *ℤ (p +ℤ q +ℤ r) ≡ (p *ℤ k +ℤ q *ℤ m +ℤ r *ℤ n) +ℤ (p *ℤ (l -ℤ k) +ℤ q *ℤ (l -ℤ m) +ℤ r *ℤ (l -ℤ n))
+    whole : (p q r l k m n : ℤ) → l *ℤ (p +ℤ q +ℤ r) ≡
+        (p *ℤ k +ℤ q *ℤ m +ℤ r *ℤ n) +ℤ (p *ℤ (l -ℤ k) +ℤ q *ℤ (l -ℤ m) +ℤ r *ℤ (l -ℤ n))
     whole p q r l k m n =
-        rw (as_dif p, as_dif q, as_dif r, as_dif l, as_dif k, as_dif m, as_dif n) (simp difs (omega (arith, dif-same)))
+        rw (as_dif p, as_dif q, as_dif r, as_dif l, as_dif k, as_dif m, as_dif n)
+        (simp difs (omega (arith, dif-same)))
 
     within : (s t u : ℤ) → t ≡ s +ℤ u → pos 0 ≤ℤ s → pos 0 ≤ℤ u → unsigned_abs s ≤ unsigned_abs t
     within s t u e h i = omega (arith, ints)
@@ -321,14 +371,20 @@ numerator_bound : (a b c : Spot) (x y : ℤ) (most : ℕ) → TurnsForth a b c x
     a.z ≤ most → b.z ≤ most → c.z ≤ most → unsigned_abs (weighted a b c x y) ≤ most * unsigned_abs (divisor a b c x y)
 unfolding weighted divisor
 numerator_bound a b c x y most (inl h) of_a of_b of_c =
-    numerator_size (edge_function b c x y) (edge_function c a x y) (edge_function a b x y) a.z b.z c.z most h of_a of_b of_c
+    numerator_size (edge_function b c x y) (edge_function c a x y) (edge_function a b x y) a.z b.z c.z most h
+    of_a of_b of_c
 numerator_bound a b c x y most (inr h) of_a of_b of_c =
     turned_size (edge_function b c x y) (edge_function c a x y) (edge_function a b x y) (turned_weights a b c x y h)
   where
     turned_size : (p q r : ℤ) → NoneNegative (neg_ℤ p) (neg_ℤ q) (neg_ℤ r) →
         unsigned_abs (p *ℤ pos a.z +ℤ q *ℤ pos b.z +ℤ r *ℤ pos c.z) ≤ most * unsigned_abs (p +ℤ q +ℤ r)
     turned_size p q r weights =
-        rw (← size_turned (p *ℤ pos a.z +ℤ q *ℤ pos b.z +ℤ r *ℤ pos c.z), ← size_turned (p +ℤ q +ℤ r), mean_turned p q r (pos a.z) (pos b.z) (pos c.z), sum_turned p q r)
+        rw (
+          ← size_turned (p *ℤ pos a.z +ℤ q *ℤ pos b.z +ℤ r *ℤ pos c.z),
+          ← size_turned (p +ℤ q +ℤ r),
+          mean_turned p q r (pos a.z) (pos b.z) (pos c.z),
+          sum_turned p q r,
+        )
         (numerator_size (neg_ℤ p) (neg_ℤ q) (neg_ℤ r) a.z b.z c.z most weights of_a of_b of_c)
       where
         size_turned : (z : ℤ) → unsigned_abs (neg_ℤ z) ≡ unsigned_abs z

@@ -22,7 +22,8 @@ product_positive (pos (suc m)) (negsuc n) h k = absurd (omega (arith, ints))
 product_positive (negsuc m) q h k = absurd (omega (arith, ints))
 
 -- two tests that follow from each other are one
-pub tests_agree : (p q : ℤ) → (pos 0 <ℤ p → pos 0 <ℤ q) → (pos 0 <ℤ q → pos 0 <ℤ p) → int_lt (pos 0) p ≡ int_lt (pos 0) q
+pub tests_agree : (p q : ℤ) → (pos 0 <ℤ p → pos 0 <ℤ q) → (pos 0 <ℤ q → pos 0 <ℤ p) → int_lt (pos 0) p ≡
+    int_lt (pos 0) q
 tests_agree p q f g = grind (arith, ints)
 
 -- a positive multiple of one is a positive multiple of the other, so both are positive or none is
@@ -30,7 +31,8 @@ positive_forth : (p q u v : ℤ) → pos 0 <ℤ u → pos 0 <ℤ v → p *ℤ v 
 positive_forth p q u v hu hv e hp =
     let k = product_positive p v hp hv in
     let otherwise : q ≤ℤ pos 0 → (q *ℤ u) ≤ℤ pos 0 = λ h. product_not_positive q u h (omega (arith, ints)) in
-    by_lt_z (pos 0) q (λ h. h) (λ h. let no : (q *ℤ u) ≤ℤ pos 0 = otherwise h in let yes : pos 0 <ℤ (q *ℤ u) = rw e at k in absurd (clash yes no))
+    by_lt_z (pos 0) q (λ h. h) (λ h. let no : (q *ℤ u) ≤ℤ pos 0 = otherwise h in
+    let yes : pos 0 <ℤ (q *ℤ u) = rw e at k in absurd (clash yes no))
   where
     clash : {z : ℤ} → pos 0 <ℤ z → z ≤ℤ pos 0 → ⊥
     clash h k = omega (arith, ints)
