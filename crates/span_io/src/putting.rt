@@ -14,7 +14,7 @@ pub fn put_all<K: Sink>(out: &mut K, bytes: &[u8]) -> bool
     ensures cause { OnFalse result (Rose (K.faults out.old) (K.faults out.new)) }
     ensures prefix { OnFalse result ((n : ℕ) × (n ≤ length bytes.now) ×
         Put (K.written out.old) (K.written out.new) (K.flushed out.old) (K.flushed out.new)
-            (take n bytes.now)) }
+        (take n bytes.now)) }
 
     ensures count { K.faults out.old ≤ K.faults out.new }
 {

@@ -1,0 +1,50 @@
+-- One put after another is a put of both.
+use Rattle.std.proofs.Common.{◌≡◌, ℕ, ◌+◌, ◌<◌, List, [], ◌∷◌, ◌++◌, Bool, false, Option, None, Some, length, take, drop, option_map, refl, sym, ◌∙◌, ap, subst, arith, append_assoc, take-append-drop, length-take-le}
+use Rattle.std.proofs.lemmas.List.{append-nil, take-take, drop-take}
+use Rattle.span_io.specs.Puts.{Appended, flushed_after, Put}
+use Rattle.span_io.specs.Writes.{TookBytes}
+
+pub appended_nothing : (written : Option (List ℕ)) → Appended written written []
+appended_nothing None = refl
+appended_nothing (Some before) = ap (λ (bytes : List ℕ). Some bytes) (sym (append-nil before))
+
+pub appended-append : (first second third : Option (List ℕ)) (xs ys : List ℕ) → Appended first second xs → Appended second third ys → Appended first third (xs ++ ys)
+appended-append None second third xs ys one two = two ∙ ap (option_map (λ (before : List ℕ). before ++ ys)) one
+appended-append (Some before) second third xs ys one two =
+    two ∙ ap (option_map (λ (before : List ℕ). before ++ ys)) one ∙ ap (λ (bytes : List ℕ). Some bytes) (append_assoc before xs ys)
+
+pub flushed_after-append : (flushed : Bool) (xs ys : List ℕ) → flushed_after (flushed_after flushed xs) ys ≡ flushed_after flushed (xs ++ ys)
+flushed_after-append flushed [] ys = refl
+flushed_after-append flushed (x ∷ xs) [] = refl
+flushed_after-append flushed (x ∷ xs) (y ∷ ys) = refl
+
+pub flushed_after_some : (flushed : Bool) (bytes : List ℕ) → 0 < length bytes → flushed_after flushed bytes ≡ false
+flushed_after_some flushed [] some = absurd (omega arith)
+flushed_after_some flushed (byte ∷ more) some = refl
+
+pub put_nothing : (written : Option (List ℕ)) (flushed : Bool) → Put written written flushed flushed []
+put_nothing written flushed = record { appended = appended_nothing written; flushed_is = refl }
+
+pub put-append : (first second third : Option (List ℕ)) (f g h : Bool) (xs ys : List ℕ) → Put first second f g xs → Put second third g h ys → Put first third f h (xs ++ ys)
+put-append first second third f g h xs ys one two = record {
+  appended = appended-append first second third xs ys one.appended two.appended;
+  flushed_is = two.flushed_is ∙ ap (λ (b : Bool). flushed_after b ys) one.flushed_is ∙ flushed_after-append f xs ys;
+}
+
+pub take_parts : (m n : ℕ) (xs : List ℕ) → take m xs ++ take n (drop m xs) ≡ take (m + n) xs
+take_parts m n xs =
+    let front : take m (take (m + n) xs) ≡ take m xs = take-take m (m + n) xs (omega arith) in
+    let back : drop m (take (m + n) xs) ≡ take n (drop m xs) = drop-take m n xs in
+    ap (λ (l : List ℕ). l ++ take n (drop m xs)) (sym front) ∙ ap (λ (l : List ℕ). take m (take (m + n) xs) ++ l) (sym back) ∙ take-append-drop m (take (m + n) xs)
+
+-- bytes that a sink took, as a put of them
+pub put_taken : (written new_written : Option (List ℕ)) (flushed new_flushed : Bool) (from : List ℕ) (n : ℕ) → TookBytes written new_written new_flushed from n → Put written new_written flushed new_flushed (take n from)
+put_taken written new_written flushed new_flushed from n took = record {
+  appended = took.appended;
+  flushed_is = took.unflushed ∙ sym (flushed_after_some flushed (take n from) (omega (arith, length-take-le n from took.within, took.some_byte)));
+}
+
+-- the first `at` bytes of a list were put, and then n of the rest were taken
+pub put_more : (first second third : Option (List ℕ)) (f g h : Bool) (bytes : List ℕ) (at n : ℕ) → Put first second f g (take at bytes) → TookBytes second third h (drop at bytes) n → Put first third f h (take (at + n) bytes)
+put_more first second third f g h bytes at n so_far took =
+    subst (Put first third f h) (take_parts at n bytes) (put-append first second third f g h (take at bytes) (take n (drop at bytes)) so_far (put_taken second third g h (drop at bytes) n took))
