@@ -2,13 +2,23 @@
 //!
 //! A call may give or take fewer bytes than it is offered, and it may fail; it answers that it failed
 //! only where its count of faults rose. Where a source or a sink tells its bytes, the contracts say
-//! which ones moved. The public source is `Source` and `Sink`, with `put_all` above them.
+//! which ones moved. The forms in memory tell theirs, and fail exactly where they are told to; the
+//! forms over the standard library's readers and writers tell nothing, and count what fails.
 #![tactic(auto)]
 
+mod memory_sinks;
+mod memory_sources;
+mod plans;
 mod putting;
 mod sinks;
 mod sources;
+mod std_sinks;
+mod std_sources;
 
+pub use memory_sinks::MemorySink;
+pub use memory_sources::MemorySource;
 pub use putting::put_all;
 pub use sinks::{Sink, Took};
 pub use sources::{Got, Source};
+pub use std_sinks::StdSink;
+pub use std_sources::StdSource;

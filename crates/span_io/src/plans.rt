@@ -1,0 +1,50 @@
+ghost use Rattle.std.specs.Prelude.{◌≡◌, ◌≤◌};
+ghost use Rattle.span_io.specs.Plans.{Plan, plan_of, next_fails, called};
+
+use std::marker::Model;
+
+/// Which calls are to fail, and how many were made and have failed.
+#[derive(Drop)]
+pub struct FaultPlan {
+    failing: Vec<u64>,
+    made: u64,
+    faults: u64,
+}
+
+impl Model for FaultPlan {
+    ghost Value = { Plan };
+
+    ghost view = { λ plan. record {
+        failing = plan.failing.items; made = plan.made; faults = plan.faults } };
+}
+
+impl FaultPlan {
+    /// The calls with these numbers, from 1, are to fail.
+    pub fn of(failing: Vec<u64>) -> FaultPlan
+        ensures { result ≡ plan_of failing.items }
+    {
+        FaultPlan {
+            failing,
+            made: 0,
+            faults: 0,
+        }
+    }
+
+    /// Whether the next call is to fail.
+    pub fn next_fails(&self) -> bool
+        ensures { result ≡ next_fails self.now }
+    {
+        self.failing.contains(&self.made.saturating_add(1))
+    }
+
+    /// Counts one more call, and a fault where it fails.
+    pub fn count_call(&mut self, fails: bool)
+        ensures called { self.new ≡ called self.old fails }
+        ensures never_falls { self.old.faults ≤ self.new.faults }
+    {
+        self.made = self.made.saturating_add(1);
+        if fails {
+            self.faults = self.faults.saturating_add(1);
+        }
+    }
+}

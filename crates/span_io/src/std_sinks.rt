@@ -1,0 +1,83 @@
+ghost use Rattle.std.specs.Prelude.{◌≡◌, ◌≤◌, ◌<◌, None, false, length};
+ghost use Rattle.span_io.specs.Writes.{WriteDoes, FinishDoes};
+ghost use Rattle.span_io.specs.StdForms.{SinkCount, faults_after_write, faults_after_finish};
+
+use crate::{Sink, Took};
+use std::io::Write;
+use std::marker::Model;
+
+/// A sink over a writer of the standard library. It tells no bytes; a contract sees whether it is
+/// flushed, and its count of faults. A writer that takes nothing fails.
+#[derive(Drop)]
+pub struct StdSink<W> {
+    writer: W,
+    flushed: bool,
+    faults: u64,
+}
+
+impl<W> Model for StdSink<W> {
+    ghost Value = { SinkCount };
+
+    ghost view = { λ sink. record { flushed = sink.flushed; faults = sink.faults } };
+}
+
+impl<W: Write> StdSink<W> {
+    /// A sink into the writer.
+    pub fn of(writer: W) -> StdSink<W>
+        ensures { result ≡ record { flushed = false; faults = 0 } }
+    {
+        StdSink {
+            writer,
+            flushed: false,
+            faults: 0,
+        }
+    }
+}
+
+impl<W: Write> Sink for StdSink<W> {
+    ghost written = { λ sink. None };
+
+    ghost flushed = { λ sink. sink.flushed };
+
+    ghost faults = { λ sink. sink.faults };
+
+    fn write_some(&mut self, from: &[u8]) -> Took
+        requires { 0 < length from.now }
+
+        ensures does { WriteDoes None None self.old.flushed self.new.flushed
+            self.old.faults self.new.faults from.now result }
+        ensures count { self.old.faults ≤ self.new.faults }
+
+        ensures each { self.new.faults ≡ faults_after_write self.old.faults result }
+    {
+        match self.writer.write(from) {
+            Ok(0) | Err(_) => {
+                self.faults = self.faults.saturating_add(1);
+                Took::Failed
+            }
+            Ok(count) => {
+                self.flushed = false;
+                Took::Bytes(count)
+            }
+        }
+    }
+
+    fn finish(&mut self) -> bool
+        ensures does { FinishDoes None None self.old.flushed self.new.flushed
+            self.old.faults self.new.faults result }
+        ensures count { self.old.faults ≤ self.new.faults }
+
+        ensures each { self.new.faults ≡ faults_after_finish self.old.faults result }
+    {
+        match self.writer.flush() {
+            Ok(()) => {
+                self.flushed = true;
+                true
+            }
+            Err(_) => {
+                self.faults = self.faults.saturating_add(1);
+                false
+            }
+        }
+    }
+}
