@@ -10,6 +10,7 @@ mod memory_sinks;
 mod memory_sources;
 mod plans;
 mod putting;
+mod retries;
 mod sinks;
 mod sources;
 mod std_sinks;

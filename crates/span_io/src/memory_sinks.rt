@@ -26,8 +26,13 @@ pub struct MemorySink {
 impl Model for MemorySink {
     ghost Value = { SinkState };
 
-    ghost view = { λ sink. record { written = sink.bytes.items; flushed = sink.flushed;
-        room = sink.room; most = sink.most; plan = sink.plan } };
+    ghost view = { λ sink. record {
+      written = sink.bytes.items;
+      flushed = sink.flushed;
+      room = sink.room;
+      most = sink.most;
+      plan = sink.plan;
+    } };
 
     ghost invariant = { λ sink.
         (vec_len sink.bytes + sink.room ≤ vec_capacity sink.bytes) × (1 ≤ sink.most) };
@@ -36,16 +41,16 @@ impl Model for MemorySink {
 impl MemorySink {
     /// An empty sink with room for so many bytes, which takes at most `most` of them in one write. The
     /// calls whose numbers, from 1, stand in `failing` fail; a `finish` is a call as a write is.
-    pub fn of(
-        alloc: Global,
-        room: u64,
-        most: u32,
-        failing: Vec<u64>,
-    ) -> Result<MemorySink, Memory>
+    pub fn of(alloc: Global, room: u64, most: u32, failing: Vec<u64>) -> Result<MemorySink, Memory>
         requires room_fits { room ≤ 2 ^ 32 }
         requires most_fits { 1 ≤ most }
-        ensures { IfOk result (λ sink. sink ≡ record { written = []; flushed = false;
-            room = room; most = most; plan = plan_of failing.items }) }
+        ensures { IfOk result (λ sink. sink ≡ record {
+          written = [];
+          flushed = false;
+          room = room;
+          most = most;
+          plan = plan_of failing.items;
+        }) }
     {
         Ok(MemorySink {
             bytes: Vec::with_capacity(alloc, room as usize)?,

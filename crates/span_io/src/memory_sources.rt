@@ -22,7 +22,10 @@ impl Model for MemorySource {
     ghost Value = { SourceState };
 
     ghost view = { λ source. record {
-        left = drop source.at source.bytes.items; most = source.most; plan = source.plan } };
+      left = drop source.at source.bytes.items;
+      most = source.most;
+      plan = source.plan;
+    } };
 
     ghost invariant = { λ source. (source.at ≤ length source.bytes.items) × (1 ≤ source.most) };
 }
@@ -33,7 +36,10 @@ impl MemorySource {
     pub fn of(bytes: Vec<u8>, most: u32, failing: Vec<u64>) -> MemorySource
         requires { 1 ≤ most }
         ensures { result ≡ record {
-            left = bytes.items; most = most; plan = plan_of failing.items } }
+          left = bytes.items;
+          most = most;
+          plan = plan_of failing.items;
+        } }
     {
         MemorySource {
             bytes,

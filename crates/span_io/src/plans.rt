@@ -15,7 +15,10 @@ impl Model for FaultPlan {
     ghost Value = { Plan };
 
     ghost view = { λ plan. record {
-        failing = plan.failing.items; made = plan.made; faults = plan.faults } };
+      failing = plan.failing.items;
+      made = plan.made;
+      faults = plan.faults;
+    } };
 }
 
 impl FaultPlan {
@@ -39,7 +42,7 @@ impl FaultPlan {
 
     /// Counts one more call, and a fault where it fails.
     pub fn count_call(&mut self, fails: bool)
-        ensures called { self.new ≡ called self.old fails }
+        ensures call { self.new ≡ called self.old fails }
         ensures never_falls { self.old.faults ≤ self.new.faults }
     {
         self.made = self.made.saturating_add(1);

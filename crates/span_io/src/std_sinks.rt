@@ -2,12 +2,14 @@ ghost use Rattle.std.specs.Prelude.{◌≡◌, ◌≤◌, ◌<◌, None, false, 
 ghost use Rattle.span_io.specs.Writes.{WriteDoes, FinishDoes};
 ghost use Rattle.span_io.specs.StdForms.{SinkCount, faults_after_write, faults_after_finish};
 
+use crate::retries::{flush_again, write_again};
 use crate::{Sink, Took};
 use std::io::Write;
 use std::marker::Model;
 
 /// A sink over a writer of the standard library. It tells no bytes; a contract sees whether it is
-/// flushed, and its count of faults. A writer that takes nothing fails.
+/// flushed, and its count of faults. A writer that takes nothing fails. A call that a signal
+/// interrupts is made again, and fails after 16 tries.
 #[derive(Drop)]
 pub struct StdSink<W> {
     writer: W,
@@ -50,7 +52,7 @@ impl<W: Write> Sink for StdSink<W> {
 
         ensures each { self.new.faults ≡ faults_after_write self.old.faults result }
     {
-        match self.writer.write(from) {
+        match write_again(&mut self.writer, from) {
             Ok(0) | Err(_) => {
                 self.faults = self.faults.saturating_add(1);
                 Took::Failed
@@ -69,7 +71,7 @@ impl<W: Write> Sink for StdSink<W> {
 
         ensures each { self.new.faults ≡ faults_after_finish self.old.faults result }
     {
-        match self.writer.flush() {
+        match flush_again(&mut self.writer) {
             Ok(()) => {
                 self.flushed = true;
                 true

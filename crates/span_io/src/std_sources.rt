@@ -2,12 +2,13 @@ ghost use Rattle.std.specs.Prelude.{◌≡◌, ◌≤◌, ◌<◌, ℕ, None, le
 ghost use Rattle.span_io.specs.Reads.{ReadDoes};
 ghost use Rattle.span_io.specs.StdForms.{faults_after_read};
 
+use crate::retries::read_again;
 use crate::{Got, Source};
 use std::io::Read;
 use std::marker::Model;
 
 /// A source over a reader of the standard library. It tells no bytes; a contract sees its count of
-/// faults.
+/// faults. A read that a signal interrupts is made again, and fails after 16 tries.
 #[derive(Drop)]
 pub struct StdSource<R> {
     reader: R,
@@ -42,7 +43,7 @@ impl<R: Read> Source for StdSource<R> {
 
         ensures each { self.new ≡ faults_after_read self.old result }
     {
-        match self.reader.read(into) {
+        match read_again(&mut self.reader, into) {
             Ok(0) => Got::End,
             Ok(count) => Got::Bytes(count),
             Err(_) => {
