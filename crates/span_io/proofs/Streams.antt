@@ -1,8 +1,26 @@
--- One put after another is a put of both.
+-- One read after another takes the bytes of both, and one put after another is a put of both.
 use Rattle.std.proofs.Common.{◌≡◌, ℕ, ◌+◌, ◌<◌, List, [], ◌∷◌, ◌++◌, Bool, false, Option, None, Some, length, take, drop, option_map, refl, sym, ◌∙◌, ap, subst, arith, append_assoc, take-append-drop, length-take-le}
 use Rattle.std.proofs.lemmas.List.{append-nil, take-take, drop-take}
+use Rattle.span_io.specs.Reads.{Consumed, GotBytes}
 use Rattle.span_io.specs.Puts.{Appended, flushed_after, Put}
 use Rattle.span_io.specs.Writes.{TookBytes}
+
+pub consumed_nothing : (left : Option (List ℕ)) → Consumed left left []
+consumed_nothing None = refl
+consumed_nothing (Some rest) = refl
+
+pub consumed-append : (first second third : Option (List ℕ)) (xs ys : List ℕ) → Consumed first second xs → Consumed second third ys → Consumed first third (xs ++ ys)
+consumed-append first second None xs ys one two = one ∙ ap (option_map (λ (rest : List ℕ). xs ++ rest)) two
+consumed-append first second (Some rest) xs ys one two =
+    one ∙ ap (option_map (λ (tail : List ℕ). xs ++ tail)) two ∙ ap (λ (bytes : List ℕ). Some bytes) (sym (append_assoc xs ys rest))
+
+-- bytes that a read gave, as those taken from the front
+pub consumed_got : (left new_left : Option (List ℕ)) (buffer : List ℕ) (n : ℕ) → GotBytes left new_left buffer n → Consumed left new_left (take n buffer)
+consumed_got None new_left buffer n got = ap (option_map (λ (rest : List ℕ). take n buffer ++ rest)) (sym got.gone)
+consumed_got (Some bytes) new_left buffer n got =
+    ap (λ (all : List ℕ). Some all) (sym (take-append-drop n bytes))
+    ∙ ap (λ (front : List ℕ). Some (front ++ drop n bytes)) (sym got.same)
+    ∙ ap (option_map (λ (rest : List ℕ). take n buffer ++ rest)) (sym got.gone)
 
 pub appended_nothing : (written : Option (List ℕ)) → Appended written written []
 appended_nothing None = refl

@@ -1,5 +1,5 @@
 -- A sink in memory, and what its calls come to.
-use Rattle.std.specs.Prelude.{ℕ, ◌-◌, List, ◌++◌, length, take, min, Bool, true, false, not, ◌||◌, if◌then◌else◌, ◌==◌, nat_eq}
+use Rattle.std.specs.Prelude.{ℕ, ◌-◌, List, ◌++◌, length, take, min, Bool, true, false, ◌||◌, if◌then◌else◌, ◌==◌}
 use Rattle.span_io.specs.declared.sinks.Took.{Took}
 use Rattle.span_io.specs.declared.sinks.Took.TheVariants.{Bytes, Failed}
 use Rattle.span_io.specs.Plans.{Plan, next_fails, called}

@@ -1,5 +1,5 @@
 -- A source in memory, and what a read of it comes to.
-use Rattle.std.specs.Prelude.{ℕ, List, length, drop, min, if◌then◌else◌, ◌==◌, nat_eq}
+use Rattle.std.specs.Prelude.{ℕ, List, length, drop, min, if◌then◌else◌, ◌==◌}
 use Rattle.span_io.specs.declared.sources.Got.{Got}
 use Rattle.span_io.specs.declared.sources.Got.TheVariants.{Bytes, End, Failed}
 use Rattle.span_io.specs.Plans.{Plan, next_fails, called}

@@ -1,5 +1,5 @@
 -- A plan of failures: which calls of a source or a sink in memory are to fail.
-use Rattle.std.specs.Prelude.{ℕ, List, Bool, if◌then◌else◌, ◌==◌, nat_eq}
+use Rattle.std.specs.Prelude.{ℕ, List, Bool, if◌then◌else◌, ◌==◌}
 use Rattle.std.specs.List.{list_any}
 use Rattle.span_io.specs.Faults.{raised}
 

@@ -1,8 +1,12 @@
 -- What one read of a source does, for each of its answers.
-use Rattle.std.specs.Prelude.{◌≡◌, ◌≤◌, ℕ, List, [], length, take, drop, Option, IfSome, option_map}
+use Rattle.std.specs.Prelude.{◌≡◌, ◌≤◌, ℕ, List, [], ◌++◌, length, take, drop, Option, IfSome, option_map}
 use Rattle.span_io.specs.declared.sources.Got.{Got}
 use Rattle.span_io.specs.declared.sources.Got.TheVariants.{Bytes, End, Failed}
 use Rattle.span_io.specs.Faults.{Rose}
+
+-- these bytes were taken from the front of those left, where they are told
+abbrev pub Consumed : Option (List ℕ) → Option (List ℕ) → List ℕ → Type 0
+Consumed left new_left bytes = left ≡ option_map (λ rest. bytes ++ rest) new_left
 
 -- the next n bytes stand at the front of the buffer, and are left no longer
 pub record GotBytes (left new_left : Option (List ℕ)) (buffer : List ℕ) (n : ℕ) : Type 0 where

@@ -23,3 +23,6 @@ pub use sinks::{Sink, Took};
 pub use sources::{Got, Source};
 pub use std_sinks::StdSink;
 pub use std_sources::StdSource;
+
+#[cfg(test)]
+mod tests;
