@@ -1,13 +1,20 @@
--- Sources and sinks over the readers and writers of the standard library: what they keep themselves.
-use Rattle.std.specs.Prelude.{ℕ, Bool, true, false}
+-- Sources and sinks over the readers and writers of the standard library.
+use Rattle.std.specs.Prelude.{ℕ, List, [], take, Bool, true, false, Option}
+use Rattle.std.specs.Io.KnownBytes.{Keeps, Appends, Consumes, IsAtEnd}
 use Rattle.span_io.specs.declared.sources.Got.{Got}
 use Rattle.span_io.specs.declared.sources.Got.TheVariants as got
 use Rattle.span_io.specs.declared.sinks.Took.{Took}
 use Rattle.span_io.specs.declared.sinks.Took.TheVariants as took
 use Rattle.span_io.specs.Faults.{raised}
 
--- how often the writer failed, and whether it was flushed since it last took a byte
-pub record SinkCount : Type 0 where
+-- a reader, and how often it failed
+pub record ReaderState (R : Type 0) : Type 0 where
+  pub reader : R
+  pub faults : ℕ
+
+-- a writer, whether it was flushed since it last took a byte, and how often it failed
+pub record WriterState (W : Type 0) : Type 0 where
+  pub writer : W
   pub flushed : Bool
   pub faults : ℕ
 
@@ -23,3 +30,14 @@ faults_after_write faults _ = faults
 abbrev pub faults_after_finish : ℕ → Bool → ℕ
 faults_after_finish faults false = raised faults
 faults_after_finish faults true = faults
+
+-- where a reader knows its bytes, those that it gave are the next of them, and at the end none is left
+abbrev pub Gave : Option (List ℕ) → Option (List ℕ) → List ℕ → Got → Type 0
+Gave known new_known buffer (got.Bytes n) = Consumes known new_known (take n buffer)
+Gave known new_known buffer got.End = Consumes known new_known [] × IsAtEnd new_known
+Gave known new_known buffer got.Failed = Keeps known new_known
+
+-- where a writer knows its bytes, those that it took stand at their end
+abbrev pub Holds : Option (List ℕ) → Option (List ℕ) → List ℕ → Took → Type 0
+Holds known new_known from (took.Bytes n) = Appends known new_known (take n from)
+Holds known new_known from took.Failed = Keeps known new_known

@@ -1,4 +1,5 @@
 ghost use Rattle.std.specs.Io.{ReadsAtMost, WritesAtMost};
+ghost use Rattle.std.specs.Io.KnownBytes.{ReadConsumes, WriteAppends, Keeps};
 
 use std::io::{ErrorKind, Read, Result, Write};
 
@@ -7,7 +8,9 @@ const TRIES: u32 = 16;
 
 /// Reads, and reads again where a signal interrupted it.
 pub fn read_again<R: Read>(reader: &mut R, into: &mut [u8]) -> Result<usize>
-    ensures { ReadsAtMost result into.new }
+    ensures bound { ReadsAtMost result into.new }
+    ensures known { ReadConsumes (R.remaining reader.old) (R.remaining reader.new)
+        result into.new }
 {
     for _ in 1..TRIES {
         match reader.read(into) {
@@ -20,7 +23,9 @@ pub fn read_again<R: Read>(reader: &mut R, into: &mut [u8]) -> Result<usize>
 
 /// Writes, and writes again where a signal interrupted it.
 pub fn write_again<W: Write>(writer: &mut W, from: &[u8]) -> Result<usize>
-    ensures { WritesAtMost result from.now }
+    ensures bound { WritesAtMost result from.now }
+    ensures known { WriteAppends (W.contents writer.old) (W.contents writer.new)
+        result from.now }
 {
     for _ in 1..TRIES {
         match writer.write(from) {
@@ -32,7 +37,9 @@ pub fn write_again<W: Write>(writer: &mut W, from: &[u8]) -> Result<usize>
 }
 
 /// Flushes, and flushes again where a signal interrupted it.
-pub fn flush_again<W: Write>(writer: &mut W) -> Result<()> {
+pub fn flush_again<W: Write>(writer: &mut W) -> Result<()>
+    ensures { Keeps (W.contents writer.old) (W.contents writer.new) }
+{
     for _ in 1..TRIES {
         match writer.flush() {
             Err(error) if error.kind() == ErrorKind::Interrupted => {}

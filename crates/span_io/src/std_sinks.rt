@@ -1,15 +1,16 @@
 ghost use Rattle.std.specs.Prelude.{◌≡◌, ◌≤◌, ◌<◌, None, false, length};
 ghost use Rattle.span_io.specs.Writes.{WriteDoes, FinishDoes};
-ghost use Rattle.span_io.specs.StdForms.{SinkCount, faults_after_write, faults_after_finish};
+ghost use Rattle.span_io.specs.StdForms.{WriterState, faults_after_write, faults_after_finish, Holds};
+ghost use Rattle.std.specs.Io.KnownBytes.{Keeps};
 
 use crate::retries::{flush_again, write_again};
 use crate::{Sink, Took};
 use std::io::Write;
 use std::marker::Model;
 
-/// A sink over a writer of the standard library. It tells no bytes; a contract sees whether it is
-/// flushed, and its count of faults. A writer that takes nothing fails. A call that a signal
-/// interrupts is made again, and fails after 16 tries.
+/// A sink over a writer of the standard library. As a sink it tells no bytes; each failure of the
+/// writer counts as one fault, and so does a write that takes nothing. A call that a signal interrupts
+/// is made again, and fails after 16 tries.
 #[derive(Drop)]
 pub struct StdSink<W> {
     writer: W,
@@ -18,15 +19,19 @@ pub struct StdSink<W> {
 }
 
 impl<W> Model for StdSink<W> {
-    ghost Value = { SinkCount };
+    ghost Value = { WriterState W };
 
-    ghost view = { λ sink. record { flushed = sink.flushed; faults = sink.faults } };
+    ghost view = { λ sink. record {
+      writer = sink.writer;
+      flushed = sink.flushed;
+      faults = sink.faults;
+    } };
 }
 
 impl<W: Write> StdSink<W> {
-    /// A sink into the writer.
+    /// A sink into the writer. It isn't flushed yet.
     pub fn of(writer: W) -> StdSink<W>
-        ensures { result ≡ record { flushed = false; faults = 0 } }
+        ensures { result ≡ record { writer = writer; flushed = false; faults = 0 } }
     {
         StdSink {
             writer,
@@ -51,6 +56,8 @@ impl<W: Write> Sink for StdSink<W> {
         ensures count { self.old.faults ≤ self.new.faults }
 
         ensures each { self.new.faults ≡ faults_after_write self.old.faults result }
+        ensures known { Holds (W.contents self.old.writer) (W.contents self.new.writer)
+            from.now result }
     {
         match write_again(&mut self.writer, from) {
             Ok(0) | Err(_) => {
@@ -70,6 +77,7 @@ impl<W: Write> Sink for StdSink<W> {
         ensures count { self.old.faults ≤ self.new.faults }
 
         ensures each { self.new.faults ≡ faults_after_finish self.old.faults result }
+        ensures known { Keeps (W.contents self.old.writer) (W.contents self.new.writer) }
     {
         match flush_again(&mut self.writer) {
             Ok(()) => {

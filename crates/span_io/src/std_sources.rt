@@ -1,14 +1,14 @@
-ghost use Rattle.std.specs.Prelude.{◌≡◌, ◌≤◌, ◌<◌, ℕ, None, length};
+ghost use Rattle.std.specs.Prelude.{◌≡◌, ◌≤◌, ◌<◌, None, length};
 ghost use Rattle.span_io.specs.Reads.{ReadDoes};
-ghost use Rattle.span_io.specs.StdForms.{faults_after_read};
+ghost use Rattle.span_io.specs.StdForms.{ReaderState, faults_after_read, Gave};
 
 use crate::retries::read_again;
 use crate::{Got, Source};
 use std::io::Read;
 use std::marker::Model;
 
-/// A source over a reader of the standard library. It tells no bytes; a contract sees its count of
-/// faults. A read that a signal interrupts is made again, and fails after 16 tries.
+/// A source over a reader of the standard library. As a source it tells no bytes; each failure of the
+/// reader counts as one fault. A read that a signal interrupts is made again, and fails after 16 tries.
 #[derive(Drop)]
 pub struct StdSource<R> {
     reader: R,
@@ -16,15 +16,15 @@ pub struct StdSource<R> {
 }
 
 impl<R> Model for StdSource<R> {
-    ghost Value = { ℕ };
+    ghost Value = { ReaderState R };
 
-    ghost view = { λ source. source.faults };
+    ghost view = { λ source. record { reader = source.reader; faults = source.faults } };
 }
 
 impl<R: Read> StdSource<R> {
     /// A source of what the reader reads.
     pub fn of(reader: R) -> StdSource<R>
-        ensures { result ≡ 0 }
+        ensures { result ≡ record { reader = reader; faults = 0 } }
     {
         StdSource { reader, faults: 0 }
     }
@@ -33,15 +33,17 @@ impl<R: Read> StdSource<R> {
 impl<R: Read> Source for StdSource<R> {
     ghost left = { λ source. None };
 
-    ghost faults = { λ source. source };
+    ghost faults = { λ source. source.faults };
 
     fn read_some(&mut self, into: &mut [u8]) -> Got
         requires { 0 < length into.old }
 
-        ensures does { ReadDoes None None self.old self.new into.new result }
-        ensures count { self.old ≤ self.new }
+        ensures does { ReadDoes None None self.old.faults self.new.faults into.new result }
+        ensures count { self.old.faults ≤ self.new.faults }
 
-        ensures each { self.new ≡ faults_after_read self.old result }
+        ensures each { self.new.faults ≡ faults_after_read self.old.faults result }
+        ensures known { Gave (R.remaining self.old.reader) (R.remaining self.new.reader)
+            into.new result }
     {
         match read_again(&mut self.reader, into) {
             Ok(0) => Got::End,
