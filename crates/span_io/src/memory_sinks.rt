@@ -39,9 +39,9 @@ impl Model for MemorySink {
 }
 
 impl MemorySink {
-    /// An empty sink, not yet flushed, with room for so many bytes, of which one write takes at most
-    /// `most`. The
-    /// calls whose numbers, from 1, stand in `failing` fail; a `finish` is a call as a write is.
+    /// An empty sink with room for so many bytes, of which one write takes at most `most`. The calls
+    /// whose numbers, from 1, stand in `failing` fail; a `finish` is a call as a write is. It isn't
+    /// flushed yet.
     pub fn of(alloc: Global, room: u64, most: u32, failing: Vec<u64>) -> Result<MemorySink, Memory>
         requires room_fits { room ≤ 2 ^ 32 }
         requires most_fits { 1 ≤ most }
