@@ -1,0 +1,11 @@
+pub mod Apart
+pub mod Choices
+pub mod Coordinates
+pub mod Corners
+pub mod Digits
+pub mod Examples
+pub mod FourWords
+pub mod Gathered
+pub mod Parts
+pub mod Plain
+pub mod Sound

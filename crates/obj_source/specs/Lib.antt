@@ -1,0 +1,3 @@
+pub mod PlainText
+pub mod Readings
+pub mod SourceTriangles

@@ -1,0 +1,34 @@
+-- Sums and differences of bounded integers, and the words that hold them.
+use Rattle.std.proofs.Common.{◌≡◌, ℕ, ◌+◌, ◌≤◌, ◌<◌, ◌^◌, ℤ, ◌+ℤ◌, ◌-ℤ◌, to_z, of_z, w64, unsigned_abs, lit<, arith}
+use Rattle.std.proofs.lemmas.Int.{ints, to_z-of_z, fits_signed_from_abs}
+use mir.Syntax.{Width}
+use mir.Val.{hbits}
+
+pub within_sub : (a b : ℤ) (m n k : ℕ) → unsigned_abs a ≤ m → unsigned_abs b ≤ n → m + n ≤ k → unsigned_abs (a -ℤ b) ≤ k
+within_sub a b m n k p q r = omega (arith, ints)
+
+pub within_add : (a b : ℤ) (m n k : ℕ) → unsigned_abs a ≤ m → unsigned_abs b ≤ n → m + n ≤ k → unsigned_abs (a +ℤ b) ≤ k
+within_add a b m n k p q r = omega (arith, ints)
+
+-- a number this near to 0 is held by the word
+pub held_by : (w : Width) (z : ℤ) (n : ℕ) → unsigned_abs z ≤ n → n < 2 ^ hbits w → to_z w (of_z w z) ≡ z
+held_by w z n p q = to_z-of_z w z (fits_signed_from_abs w z (omega arith))
+
+-- a near coordinate is held by 64 bits
+pub near_word : (z : ℤ) → unsigned_abs z ≤ 2 ^ 42 → to_z w64 (of_z w64 z) ≡ z
+near_word z h = held_by w64 z (2 ^ 42) h (lit< tt)
+
+-- a difference and a sum as the code computes them
+pub computed_sub : (w : Width) (a b : ℤ) (n : ℕ) → unsigned_abs a ≤ n → unsigned_abs b ≤ n → n + n < 2 ^ hbits w →
+    to_z w (of_z w (to_z w (of_z w a) -ℤ to_z w (of_z w b))) ≡ a -ℤ b
+computed_sub w a b n p q r =
+    let e : to_z w (of_z w a) ≡ a = held_by w a n p (omega arith) in
+    let f : to_z w (of_z w b) ≡ b = held_by w b n q (omega arith) in
+    rw (e, f) (held_by w (a -ℤ b) (n + n) (within_sub a b n n (n + n) p q (omega arith)) r)
+
+pub computed_add : (w : Width) (a b : ℤ) (n : ℕ) → unsigned_abs a ≤ n → unsigned_abs b ≤ n → n + n < 2 ^ hbits w →
+    to_z w (of_z w (to_z w (of_z w a) +ℤ to_z w (of_z w b))) ≡ a +ℤ b
+computed_add w a b n p q r =
+    let e : to_z w (of_z w a) ≡ a = held_by w a n p (omega arith) in
+    let f : to_z w (of_z w b) ≡ b = held_by w b n q (omega arith) in
+    rw (e, f) (held_by w (a +ℤ b) (n + n) (within_add a b n n (n + n) p q (omega arith)) r)

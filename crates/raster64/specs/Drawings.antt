@@ -1,0 +1,26 @@
+-- A triangle that is drawn, and the words of a stretch of pixels.
+use Rattle.std.specs.Prelude.{◌<◌, ◌^◌, Bool, ℕ, List, map, filter}
+use Rattle.std.specs.List.{range_with_len}
+use Rattle.geom_core.specs.Coverage.{covers, word_at}
+use Rattle.raster64.specs.declared.drawings.Drawing.{Drawing}
+use Rattle.raster64.specs.Reach.{InReach, IsSeen, IsPicture}
+
+-- what a triangle has to keep to be drawn
+pub record CanBeDrawn (d : Drawing) : Type 0 where
+  pub reach : InReach d.a × InReach d.b × InReach d.c
+  pub seen : IsSeen d.a × IsSeen d.b × IsSeen d.c
+  pub cluster : d.cluster < 2 ^ 27
+  pub tri : d.tri < 2 ^ 7
+  pub picture : IsPicture d.size
+
+-- the triangle covers the pixel
+abbrev pub is_covered : Drawing → ℕ → Bool
+is_covered d pixel = covers d.a d.b d.c d.size pixel
+
+-- the pixel, with the triangle's word there
+abbrev pub draw_at : Drawing → ℕ → ℕ × ℕ
+draw_at d pixel = (pixel, word_at d.a d.b d.c d.cluster d.tri d.size pixel)
+
+-- the covered pixels among `count` pixels from `first` on, ascending, each with its word
+unfoldable pub words_in : Drawing → ℕ → ℕ → List (ℕ × ℕ)
+words_in d first count = map (draw_at d) (filter (is_covered d) (range_with_len first count))

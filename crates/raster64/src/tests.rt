@@ -1,0 +1,131 @@
+ghost use Rattle.std.specs.Prelude.{◌≡◌, ◌<◌, ◌^◌, take};
+ghost use Rattle.geom_core.specs.Coverage.{words_of};
+ghost use Rattle.raster64.specs.Reach.{InReach, IsSeen};
+
+use crate::recorder::Recorder;
+use crate::{crossing, for_each_word, pack};
+use geom_core::{Size, Spot};
+
+const FOUR_BY_FOUR: Size = Size {
+    width: 4,
+    height: 4,
+};
+
+/// A spot of a table.
+fn spot(place: (i64, i64, u32)) -> Spot
+    ensures reach { InReach result }
+    ensures seen { IsSeen result }
+{
+    let (x, y, z) = place;
+    let far = 1 << 42;
+    Spot {
+        x: x.clamp(-far, far),
+        y: y.clamp(-far, far),
+        z: z.clamp(1, (1 << 30) - 1),
+    }
+}
+
+/// The puts of a triangle into a picture of 4 by 4 pixels.
+fn puts_of(a: Spot, b: Spot, c: Spot, cluster: u32, tri: u32) -> Recorder
+    requires reach { InReach a × InReach b × InReach c }
+    requires seen { IsSeen a × IsSeen b × IsSeen c }
+    requires cluster_fits { cluster < 2 ^ 27 }
+    requires tri_fits { tri < 2 ^ 7 }
+    ensures { take result.count result.puts ≡ words_of a b c cluster tri FOUR_BY_FOUR }
+{
+    let mut recorder = Recorder::new();
+    for_each_word(a, b, c, cluster, tri, FOUR_BY_FOUR, &mut recorder);
+    recorder
+}
+
+#[test]
+fn puts_each_covered_pixel_ascending(rt: HostRuntime) {
+    let left = (16, 48, 536_870_911);
+    let right = (48, 48, 536_870_911);
+    let upper = (48, 16, 536_870_911);
+    let upper_left = (16, 16, 536_870_911);
+    let raised = (53, 10, 715_827_882);
+    let far_left = (-(1 << 42), -(1 << 42), 1);
+    let far_right = (1 << 42, -(1 << 42), 1);
+    let far_below = (0, 1 << 42, 1);
+    let lower_word = 0x7fff_fffc_0000_0000;
+    let slanted_word = 0x88fb_8238_0000_0000;
+    let far_word = 0x4_0000_0283;
+    let lower: &[(u32, u64)] = &[(6, lower_word), (9, lower_word), (10, lower_word)];
+    let other: &[(u32, u64)] = &[(5, 0x7fff_fffc_0000_0001)];
+    let slanted: &[(u32, u64)] = &[
+        (6, 0x9af2_86b8_0000_0000),
+        (9, slanted_word),
+        (10, slanted_word),
+    ];
+    let whole: &[(u32, u64)] = &[
+        (0, far_word),
+        (1, far_word),
+        (2, far_word),
+        (3, far_word),
+        (4, far_word),
+        (5, far_word),
+        (6, far_word),
+        (7, far_word),
+        (8, far_word),
+        (9, far_word),
+        (10, far_word),
+        (11, far_word),
+        (12, far_word),
+        (13, far_word),
+        (14, far_word),
+        (15, far_word),
+    ];
+    let cases = [
+        ("below the shared edge", [left, right, upper], 0, 0, lower),
+        ("the same from behind", [upper, right, left], 0, 0, lower),
+        (
+            "above the shared edge",
+            [left, upper, upper_left],
+            0,
+            1,
+            other,
+        ),
+        ("slanted", [left, right, raised], 0, 0, slanted),
+        ("one point", [left, left, left], 0, 0, &[]),
+        (
+            "beyond every edge of the picture",
+            [far_left, far_right, far_below],
+            5,
+            3,
+            whole,
+        ),
+    ];
+    for (name, [a, b, c], cluster, tri, want) in cases {
+        let got = puts_of(spot(a), spot(b), spot(c), cluster % 8, tri % 8);
+        assert_eq!(rt; got.count, want.len(), "{name}");
+        for (at, put) in want.iter().enumerate() {
+            assert!(rt; at < 16 && got.puts[at] == *put, "{name}");
+        }
+    }
+}
+
+#[test]
+fn packs_the_greatest_word(rt: HostRuntime) {
+    assert_eq!(rt; pack((1 << 30) - 1, (1 << 27) - 1, 127), u64::MAX);
+    assert_eq!(rt; pack(1, 2, 3), 0x4_0000_0103);
+}
+
+#[test]
+fn counts_a_crossing_by_its_direction(rt: HostRuntime) {
+    let lower = spot((16, 48, 1));
+    let upper = spot((48, 16, 1));
+    let cases = [
+        ("left of the edge", 23, 40, -1),
+        ("on the edge", 24, 40, 0),
+        ("right of the edge", 25, 40, 0),
+        ("at the lesser y", 40, 16, -1),
+        ("above the lesser y", 40, 15, 0),
+        ("at the greater y", 0, 48, 0),
+    ];
+    for (name, x, y, want) in cases {
+        let (x, y) = (i64::from(x % 64u8), i64::from(y % 64u8));
+        assert_eq!(rt; crossing(lower, upper, x, y), want, "{name}");
+        assert_eq!(rt; crossing(upper, lower, x, y), 0 - want, "{name}, turned");
+    }
+}
