@@ -1,11 +1,15 @@
 -- The pixels that a triangle covers, and the word that it draws at each.
-use Rattle.std.specs.Prelude.{Bool, not, ℕ, ◌+◌, ◌*◌, ◌/◌, ◌%◌, ◌^◌, ℤ, pos, List, map, filter}
+use Rattle.std.specs.Prelude.{Bool, not, ℕ, ◌+◌, ◌*◌, ◌/◌, ◌%◌, ◌^◌, ℤ, pos, List, map, filter, ◌<◌, ◌≤◌}
 use Rattle.std.specs.List.{range_with_len}
 use Rattle.std.specs.Ordering.{int_eq}
 use Rattle.geom_core.specs.declared.screens.Spot.{Spot}
 use Rattle.geom_core.specs.declared.screens.Size.{Size}
 use Rattle.geom_core.specs.Winding.{winding}
 use Rattle.geom_core.specs.Depth.{depth}
+
+-- a picture has 1 to 512 columns and rows
+abbrev pub IsPicture : Size → Type 0
+IsPicture size = (0 < size.width) × (size.width ≤ 512) × (0 < size.height) × (size.height ≤ 512)
 
 -- the pixels of a picture, row by row from the upper left corner
 abbrev pub pixels_of : Size → List ℕ

@@ -3,7 +3,8 @@ use Rattle.std.specs.Prelude.{◌<◌, ◌^◌, Bool, ℕ, List, map, filter}
 use Rattle.std.specs.List.{range_with_len}
 use Rattle.geom_core.specs.Coverage.{covers, word_at}
 use Rattle.raster64.specs.declared.drawings.Drawing.{Drawing}
-use Rattle.raster64.specs.Reach.{InReach, IsSeen, IsPicture}
+use Rattle.raster64.specs.Reach.{InReach, IsSeen}
+use Rattle.geom_core.specs.Coverage.{IsPicture}
 
 -- what a triangle has to keep to be drawn
 pub record CanBeDrawn (d : Drawing) : Type 0 where

@@ -14,7 +14,3 @@ InReach s = IsNear s.x × IsNear s.y
 -- a depth that a point can have
 abbrev pub IsSeen : Spot → Type 0
 IsSeen s = (0 < s.z) × (s.z < 2 ^ 30)
-
--- a picture has 1 to 512 columns and rows
-abbrev pub IsPicture : Size → Type 0
-IsPicture size = (0 < size.width) × (size.width ≤ 512) × (0 < size.height) × (size.height ≤ 512)

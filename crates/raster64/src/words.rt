@@ -1,6 +1,7 @@
 ghost use Rattle.std.specs.Prelude.{◌≡◌, ◌<◌, ◌≤◌, ◌*◌, ◌^◌, ℕ, List, ◌++◌};
 ghost use Rattle.geom_core.specs.Coverage.{word_of, words_of};
-ghost use Rattle.raster64.specs.Reach.{InReach, IsSeen, IsPicture};
+ghost use Rattle.raster64.specs.Reach.{InReach, IsSeen};
+ghost use Rattle.geom_core.specs.Coverage.{IsPicture};
 
 use crate::drawings::{Drawing, draw};
 use crate::sinks::PixelSink;
