@@ -1,0 +1,24 @@
+mod ExamplesText
+pub mod Bounded
+pub mod Choices
+pub mod Cuts
+pub mod Examples
+pub mod FittingUppers
+pub mod Flags
+pub mod HexDigits
+pub mod LegalJournals
+pub mod Limits
+pub mod Missing
+pub mod Padding
+pub mod Pinned
+pub mod PrintedDigests
+pub mod PrintedEntries
+pub mod PrintedJournal
+pub mod PrintedLines
+pub mod PrintedNumbers
+pub mod PrintedParts
+pub mod Puts
+pub mod Ranges
+pub mod Soundness
+pub mod Stalest
+pub mod Tests

@@ -1,0 +1,13 @@
+pub mod Grammar
+pub mod History
+pub mod Kept
+pub mod Layout
+pub mod Left
+pub mod Next
+pub mod Rules
+pub mod Shown
+pub mod Sound
+pub mod Spelling
+pub mod State
+pub mod Typed
+pub mod Victim

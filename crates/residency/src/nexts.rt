@@ -1,0 +1,127 @@
+ghost use Rattle.std.specs.Prelude.{◌≡◌};
+ghost use Rattle.residency.specs.Shown.{shown};
+ghost use Rattle.residency.specs.Next.{is_want_for, can_take, is_takeable, first_takeable, is_busy, first_loading, next_at, next_without, next_in};
+
+use crate::Layout;
+use crate::frames::Want;
+use crate::pages::uppers_of;
+use crate::standings::Standing;
+use crate::victims::victim_for;
+
+/// What a loader may do next, for a frame or for all of them.
+#[derive(Clone, Copy, Debug, PartialEq, Eq)]
+pub enum Next {
+    /// Take this page, and evict the victim where there is one; None where a slot is free.
+    Take {
+        /// The page to take.
+        page: u32,
+        /// The page to evict for it.
+        victim: Option<u32>,
+    },
+    /// This page could be taken, but no slot is free and no page can be evicted for it.
+    Full {
+        /// The page that could be taken.
+        page: u32,
+    },
+    /// No page of the frame's wants can be taken, and this one of them is being loaded.
+    Busy {
+        /// The page that is being loaded.
+        page: u32,
+    },
+    /// No page that is wanted can be taken.
+    Nothing,
+}
+
+/// Whether it is a want of this frame, or of any where none is named.
+fn is_want_for(frame: Option<u32>, want: &Want) -> bool
+    ensures { result ≡ is_want_for frame want.now }
+{
+    match frame {
+        Some(frame) => want.frame == frame,
+        None => true,
+    }
+}
+
+/// Whether the page can be taken: it is neither resident nor being loaded, and its uppers are resident.
+fn can_take(layout: &Layout, standing: &Standing, page: u32) -> bool
+    ensures { result ≡ can_take layout.now (shown standing.now) page }
+{
+    !standing.is_held(page) && standing.all_resident(uppers_of(layout, page))
+}
+
+/// Whether it is a want for the frame, or for any, and its page can be taken.
+fn is_takeable(layout: &Layout, standing: &Standing, frame: Option<u32>, want: &Want) -> bool
+    ensures { result ≡ is_takeable layout.now (shown standing.now) frame want.now }
+{
+    is_want_for(frame, want) && can_take(layout, standing, want.page)
+}
+
+/// The first want whose page can be taken.
+fn first_takeable(layout: &Layout, standing: &Standing, frame: Option<u32>) -> Option<Want>
+    ensures { result ≡ first_takeable layout.now (shown standing.now) frame }
+{
+    for want in &standing.wants {
+        if is_takeable(layout, standing, frame, want) {
+            return Some(*want);
+        }
+    }
+    None
+}
+
+/// Whether it is a want of the frame and its page is being loaded.
+fn is_busy(standing: &Standing, frame: u32, want: &Want) -> bool
+    ensures { result ≡ is_busy (shown standing.now) frame want.now }
+{
+    want.frame == frame && standing.is_loading(want.page)
+}
+
+/// The frame's first want whose page is being loaded.
+fn first_loading(standing: &Standing, frame: u32) -> Option<Want>
+    ensures { result ≡ first_loading (shown standing.now) frame }
+{
+    for want in &standing.wants {
+        if is_busy(standing, frame, want) {
+            return Some(*want);
+        }
+    }
+    None
+}
+
+/// What becomes of a page that can be taken: it goes into a free slot or for a victim, or nowhere.
+fn next_at(layout: &Layout, standing: &Standing, page: u32) -> Next
+    ensures { result ≡ next_at layout.now (shown standing.now) page }
+{
+    if standing.held_count() < layout.slots as usize {
+        return Next::Take { page, victim: None };
+    }
+    match victim_for(layout, standing, page) {
+        Some(victim) => Next::Take {
+            page,
+            victim: Some(victim),
+        },
+        None => Next::Full { page },
+    }
+}
+
+/// What a loader learns where no page can be taken.
+fn next_without(standing: &Standing, frame: Option<u32>) -> Next
+    ensures { result ≡ next_without (shown standing.now) frame }
+{
+    let Some(frame) = frame else {
+        return Next::Nothing;
+    };
+    match first_loading(standing, frame) {
+        Some(want) => Next::Busy { page: want.page },
+        None => Next::Nothing,
+    }
+}
+
+/// What a loader may do next for the frame, or for all frames.
+pub fn next_in(layout: &Layout, standing: &Standing, frame: Option<u32>) -> Next
+    ensures { result ≡ next_in layout.now (shown standing.now) frame }
+{
+    match first_takeable(layout, standing, frame) {
+        Some(want) => next_at(layout, standing, want.page),
+        None => next_without(standing, frame),
+    }
+}
