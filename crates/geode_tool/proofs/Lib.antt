@@ -1,0 +1,15 @@
+pub mod Along
+pub mod Bounds
+pub mod CameraRanges
+pub mod CameraWords
+pub mod DrawWords
+pub mod DrawnItems
+pub mod Greatest
+pub mod MadeCameras
+pub mod NumberParts
+pub mod Numerals
+pub mod OnScreen
+pub mod Spots
+pub mod TextExamples
+pub mod TextRows
+pub mod WordExamples

@@ -1,0 +1,65 @@
+-- The spot of a point, from what the camera's steps give.
+use Rattle.std.specs.Prelude.{◌≡◌, ◌+◌, ◌*◌, ◌≤◌, ◌^◌, ℕ, ℤ, pos, ◌+ℤ◌, unsigned_abs, int_lt, Bool, true, false, Some, None, refl}
+use Rattle.std.proofs.Common.{arith, sym, ◌∙◌, to_z, of_z, w64, lit<}
+use Rattle.std.proofs.lemmas.Int.{ints, to_z_pos}
+use Rattle.geom_core.specs.declared.points.Pt.{Pt}
+use Rattle.geom_core.specs.declared.screens.Size.{Size}
+use Rattle.geom_core.specs.Camera.{View, along, on_screen, reversed_depth, spot_of}
+use Rattle.geode_tool.proofs.Bounds.{small_stays}
+
+-- the test of the near depth, as the code has it
+pub depth_test : (depth : ℤ) (near : ℕ) (b : Bool) → unsigned_abs depth ≤ 876173328384 → near ≤ 2 ^ 34 → int_lt (to_z w64 (of_z w64 depth)) (to_z w64 near) ≡ b → int_lt depth (pos near) ≡ b
+depth_test depth near b p q h =
+    let left = small_stays depth 876173328384 p (lit< tt) in
+    let right = to_z_pos w64 near (omega arith) in
+    rw (left, right) at h
+
+pub spot_of-near : (view : View) (size : Size) (p : Pt) (depth : ℤ) → depth ≡ along view.forward view.eye p → int_lt depth (pos view.near) ≡ true → None ≡ spot_of view size p
+unfolding spot_of
+spot_of-near view size p depth d h = let t = rw d at h in rw t refl
+
+spot_of-seen : (view : View) (size : Size) (p : Pt) → int_lt (along view.forward view.eye p) (pos view.near) ≡ false → spot_of view size p ≡ Some (record {
+  x = pos (8 * size.width) +ℤ on_screen view.focal (along view.right view.eye p) (along view.forward view.eye p);
+  y = pos (8 * size.height) +ℤ on_screen view.focal (along view.down view.eye p) (along view.forward view.eye p);
+  z = reversed_depth view.near (along view.forward view.eye p);
+})
+unfolding spot_of
+spot_of-seen view size p h = rw h refl
+
+-- a coordinate, as the code has it: from the picture's edge
+abbrev from_edge : ℤ → ℤ → ℤ
+from_edge middle offset = to_z w64 (of_z w64 (to_z w64 (of_z w64 middle) +ℤ to_z w64 (of_z w64 offset)))
+
+from_edge_is : (side : ℕ) (middle offset : ℤ) → middle ≡ pos (8 * side) → side ≤ 512 → unsigned_abs offset + 4096 ≤ 2 ^ 42 → from_edge middle offset ≡ pos (8 * side) +ℤ offset
+from_edge_is side middle offset e p q = omega (arith, ints)
+
+-- what the steps give: three distances, two middles and offsets, and a depth
+pub record Steps (view : View) (size : Size) (p : Pt) (depth right down middle_x offset_x middle_y offset_y : ℤ) (z : ℕ) : Type 0 where
+  pub near : view.near ≤ 2 ^ 34
+  pub width : size.width ≤ 512
+  pub height : size.height ≤ 512
+  pub depth_is : depth ≡ along view.forward view.eye p
+  pub depth_bound : unsigned_abs depth ≤ 876173328384
+  pub right_is : right ≡ along view.right view.eye p
+  pub right_bound : unsigned_abs right ≤ 876173328384
+  pub down_is : down ≡ along view.down view.eye p
+  pub down_bound : unsigned_abs down ≤ 876173328384
+  pub middle_x_is : middle_x ≡ pos (8 * size.width)
+  pub middle_y_is : middle_y ≡ pos (8 * size.height)
+  pub offset_x_is : offset_x ≡ on_screen view.focal (to_z w64 (of_z w64 right)) (to_z w64 (of_z w64 depth))
+  pub offset_x_bound : unsigned_abs offset_x + 4096 ≤ 2 ^ 42
+  pub offset_y_is : offset_y ≡ on_screen view.focal (to_z w64 (of_z w64 down)) (to_z w64 (of_z w64 depth))
+  pub offset_y_bound : unsigned_abs offset_y + 4096 ≤ 2 ^ 42
+  pub z_is : z ≡ reversed_depth view.near (to_z w64 (of_z w64 depth))
+  pub far : int_lt (to_z w64 (of_z w64 depth)) (to_z w64 view.near) ≡ false
+
+pub spot_of-steps : (view : View) (size : Size) (p : Pt) (depth right down middle_x offset_x middle_y offset_y : ℤ) (z : ℕ) → Steps view size p depth right down middle_x offset_x middle_y offset_y z → Some (record { x = from_edge middle_x offset_x; y = from_edge middle_y offset_y; z = z }) ≡ spot_of view size p
+spot_of-steps view size p depth right down middle_x offset_x middle_y offset_y z s =
+    let test = depth_test depth view.near false s.depth_bound s.near s.far in
+    let depth_stays : to_z w64 (of_z w64 depth) ≡ along view.forward view.eye p = small_stays depth 876173328384 s.depth_bound (lit< tt) ∙ s.depth_is in
+    let right_stays : to_z w64 (of_z w64 right) ≡ along view.right view.eye p = small_stays right 876173328384 s.right_bound (lit< tt) ∙ s.right_is in
+    let down_stays : to_z w64 (of_z w64 down) ≡ along view.down view.eye p = small_stays down 876173328384 s.down_bound (lit< tt) ∙ s.down_is in
+    let x = from_edge_is size.width middle_x offset_x s.middle_x_is s.width s.offset_x_bound in
+    let y = from_edge_is size.height middle_y offset_y s.middle_y_is s.height s.offset_y_bound in
+    rw (x, y, s.offset_x_is, s.offset_y_is, s.z_is, depth_stays, right_stays, down_stays)
+    (sym (spot_of-seen view size p (rw s.depth_is at test)))

@@ -1,0 +1,8 @@
+use Rattle.std.proofs.Common.{w64, refl}
+use Rattle.std.proofs.lemmas.Int.{to_z-of_z}
+use Rattle.geom_core.specs.Camera.{reversed_depth}
+use Rattle.geode_tool.proofs.cameras.reversed_depth.Goals as goal
+
+pub returns-clause-value : goal.returns-clause-value
+unfolding reversed_depth
+returns-clause-value c = rw (to_z-of_z w64 c.args.depth c.ranges.depth) refl

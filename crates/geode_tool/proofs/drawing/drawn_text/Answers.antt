@@ -1,0 +1,25 @@
+use Rattle.std.proofs.Common.{◌≡◌, ℕ, List, ◌%◌, ◌∙◌, length, ap}
+use Rattle.std.proofs.Math.Nat.{mul-mod_right}
+use Rattle.geom_core.specs.Picture.{items_of, picture}
+use Rattle.geode_tool.specs.PictureText.{picture_text_of}
+use Rattle.geode_tool.specs.Draw.{drawing_text}
+use Rattle.geode_tool.proofs.drawing.drawn_text.Goals as goal
+
+pub picture_text-requires-clause-whole_rows : goal.picture_text-requires-clause-whole_rows
+picture_text-requires-clause-whole_rows g c =
+    let size = c.args.drawing.now.size in
+    ap (λ (n : ℕ). n % size.width) (ap length c.deref-2.ensures.value ∙ c.in_ok-words.ensures.whole)
+    ∙ mul-mod_right size.width size.height
+
+pub returns-clause-drawn : goal.returns-clause-drawn
+unfolding drawing_text
+returns-clause-drawn g c =
+    let drawing = c.args.drawing.now in
+    let tris = c.in_ok-tris.tris.items in
+    let words : c.deref-2.result.now ≡ picture drawing.camera drawing.size (items_of tris) =
+    c.deref-2.ensures.value ∙ c.in_ok-words.ensures.picture ∙ ap (λ l. picture drawing.camera drawing.size (items_of l)) c.deref.ensures.value in
+    record {
+      tris = tris;
+      listed = c.in_ok-tris.ensures.listed;
+      shown = c.in_ok-picture_text.ensures ∙ ap (λ (l : List ℕ). picture_text_of l drawing.size.width) words;
+    }

@@ -1,0 +1,12 @@
+-- The exit status of each fault.
+use Rattle.std.specs.Prelude.{ℕ}
+use Rattle.geode_tool.specs.declared.faults.Fault.{Fault}
+use Rattle.geode_tool.specs.declared.faults.Fault.TheVariants.{Usage, ReadFault, LaterForm, WriteFault, Memory}
+
+-- no fault has the status of success, 0
+abbrev pub status_of : Fault → ℕ
+status_of Memory = 2
+status_of (Usage kind) = 3
+status_of ReadFault = 4
+status_of WriteFault = 5
+status_of LaterForm = 18

@@ -1,0 +1,196 @@
+ghost use Rattle.std.specs.Prelude.{◌≡◌, ◌==◌, ◌^◌, ◌≤◌, ◌<◌, true, map, length, IfSome};
+ghost use Rattle.std.specs.Char.{is_ascii_digit};
+ghost use Rattle.std.specs.List.{list_all, slice_split};
+ghost use Rattle.std.specs.Str.{byte};
+ghost use Rattle.std.specs.Str.Parse.{digits_value};
+ghost use Rattle.geom_core.specs.Coverage.{IsPicture};
+ghost use Rattle.geode_tool.specs.Words.{draw_words, whole_number, signed_number, side, camera};
+ghost use Rattle.geode_tool.specs.Words.{is_numeral, is_side, numbers_of, fifteen};
+
+use crate::cameras::Camera;
+use geom_core::Size;
+
+/// The most digits of a width or a height.
+const SIDE_DIGITS: usize = 10;
+
+/// The most digits of a camera's number.
+const CAMERA_DIGITS: usize = 11;
+
+/// What `draw` is asked for.
+#[derive(Clone, Copy, Debug, PartialEq, Eq)]
+pub(crate) struct Drawing {
+    /// The size of the picture, from 1 by 1 to 512 by 512.
+    pub(crate) size: Size,
+    /// The camera that the mesh is seen with.
+    pub(crate) camera: Camera,
+}
+
+/// The drawing that the program's words ask for, if they are `draw`, a width, a height and a camera, each
+/// in its range. A camera is fifteen numbers joined by commas, in the order of `Camera::new`.
+pub(crate) fn draw_of(words: &[&str]) -> Option<Drawing>
+    ensures asked { result ≡ draw_words (map (λ w. w.now) words.now) }
+    ensures in_range { IfSome result (λ drawing. IsPicture drawing.size) }
+{
+    let [name, width, height, camera] = words else {
+        return None;
+    };
+    if *name != "draw" {
+        return None;
+    }
+    let size = Size {
+        width: side(width.as_bytes())?,
+        height: side(height.as_bytes())?,
+    };
+    let camera = camera_in(camera.as_bytes())?;
+    Some(Drawing { size, camera })
+}
+
+/// The width or the height of a picture: a whole number from 1 to 512.
+fn side(word: &[u8]) -> Option<u32>
+    ensures value { result ≡ side word.now }
+    ensures in_range { IfSome result (λ n. (0 < n) × (n ≤ 512)) }
+{
+    let number = whole_number(word, SIDE_DIGITS)?;
+    if is_side(number) {
+        Some(number as u32)
+    } else {
+        None
+    }
+}
+
+/// Whether a picture can have this many columns or rows.
+fn is_side(number: u64) -> bool
+    ensures { result ≡ is_side number }
+{
+    1 <= number && number <= 512
+}
+
+/// The camera that a word describes.
+fn camera_in(word: &[u8]) -> Option<Camera>
+    ensures { result ≡ camera word.now }
+{
+    Camera::new(numbers_in(word)?).ok()
+}
+
+/// Fifteen numbers between commas.
+fn numbers_in(word: &[u8]) -> Option<[i64; 15]>
+    ensures { result ≡ fifteen (numbers_of (slice_split (λ b. b == byte ",") word.now)) }
+{
+    let mut numbers = [0; 15];
+    let mut count = 0;
+    for part in word.split(|byte| *byte == b',') {
+        if count == 15 {
+            return None;
+        }
+        numbers[count] = signed_number(part)?;
+        count += 1;
+    }
+    if count == 15 { Some(numbers) } else { None }
+}
+
+/// A number that may have `-` before its digits.
+fn signed_number(word: &[u8]) -> Option<i64>
+    ensures { result ≡ signed_number CAMERA_DIGITS word.now }
+{
+    match word {
+        [b'-', digits @ ..] => Some(-(whole_number(digits, CAMERA_DIGITS)? as i64)),
+        _ => Some(whole_number(word, CAMERA_DIGITS)? as i64),
+    }
+}
+
+/// The number that at most this many digits write.
+fn whole_number(word: &[u8], most: usize) -> Option<u64>
+    requires { most ≤ 18 }
+    ensures value { result ≡ whole_number most word.now }
+    ensures bound { IfSome result (λ n. n < 10 ^ most) }
+{
+    if is_numeral(word, most) {
+        Some(value(word))
+    } else {
+        None
+    }
+}
+
+/// Whether a word is 1 to `most` digits.
+fn is_numeral(word: &[u8], most: usize) -> bool
+    ensures { result ≡ is_numeral most word.now }
+{
+    !word.is_empty() && word.len() <= most && is_digits(word)
+}
+
+/// Whether all bytes are digits.
+fn is_digits(word: &[u8]) -> bool
+    ensures { result ≡ list_all is_ascii_digit word.now }
+{
+    word.iter().all(|byte| byte.is_ascii_digit())
+}
+
+/// The number that digits write.
+fn value(digits: &[u8]) -> u64
+    requires digits { list_all is_ascii_digit digits.now ≡ true }
+    requires short { length digits.now ≤ 18 }
+    ensures { result ≡ digits_value 10 digits.now }
+{
+    let mut number = 0;
+    for digit in digits {
+        number = number * 10 + u64::from(digit - b'0');
+    }
+    number
+}
+
+#[cfg(test)]
+mod tests {
+    use super::*;
+
+    const CAMERA: &str = "4,33554432,0,0,4096,0,16384,0,0,0,0,16384,0,-16384,0";
+
+    #[test]
+    fn words_are_taken(rt: HostRuntime) {
+        let cases: [(&str, &[&str], bool); 13] = [
+            ("a drawing", &["draw", "4", "4", CAMERA], true),
+            ("zeros first", &["draw", "0004", "0000000512", CAMERA], true),
+            ("no words", &[], false),
+            ("no camera", &["draw", "4", "4"], false),
+            ("too many words", &["draw", "4", "4", CAMERA, "4"], false),
+            ("another command", &["fly", "4", "4", CAMERA], false),
+            ("width 513", &["draw", "513", "4", CAMERA], false),
+            ("height 0", &["draw", "4", "0", CAMERA], false),
+            ("a signed width", &["draw", "-4", "4", CAMERA], false),
+            ("an option", &["draw", "--scale", "1", CAMERA], false),
+            (
+                "eleven digits",
+                &["draw", "4", "00000000004", CAMERA],
+                false,
+            ),
+            ("an empty width", &["draw", "", "4", CAMERA], false),
+            ("two numbers", &["draw", "4", "4", "0,1"], false),
+        ];
+        for (name, words, want) in cases {
+            assert_eq!(rt; draw_of(words).is_some(), want, "{name}");
+        }
+    }
+
+    #[test]
+    fn cameras_are_taken(rt: HostRuntime) {
+        let cases = [
+            ("fourteen", "4,16384,0,0,0,0,1,0,0,0,1,0,0,0", false),
+            ("fifteen", "4,16384,0,0,0,0,1,0,0,0,1,0,0,0,-1", true),
+            ("sixteen", "4,16384,0,0,0,0,1,0,0,0,1,0,0,0,-1,0", false),
+            ("a comma more", "4,16384,0,0,0,0,1,0,0,0,1,0,0,0,-1,", false),
+            ("minus 0", "4,16384,-0,0,0,0,1,0,0,0,1,0,0,0,1", true),
+            ("a plus", "4,16384,+0,0,0,0,1,0,0,0,1,0,0,0,1", false),
+            ("a space", "4,16384, 0,0,0,0,1,0,0,0,1,0,0,0,1", false),
+            ("focal 0", "0,16384,0,0,0,0,1,0,0,0,1,0,0,0,1", false),
+            ("near 16383", "4,16383,0,0,0,0,1,0,0,0,1,0,0,0,1", false),
+            (
+                "entry 16385",
+                "4,16384,0,0,0,0,1,0,0,0,1,0,0,0,16385",
+                false,
+            ),
+        ];
+        for (name, numbers, want) in cases {
+            let words = ["draw", "4", "4", numbers];
+            assert_eq!(rt; draw_of(&words).is_some(), want, "{name}");
+        }
+    }
+}

@@ -1,0 +1,47 @@
+ghost use Rattle.std.specs.Prelude.{◌≡◌, ◌≤◌, ◌%◌, ◌++◌, ◌∷◌, [], length, OnOk, IfOk};
+ghost use Rattle.geode_tool.specs.PictureText.{word_text, row_text, picture_text_of};
+
+use geom_core::Memory;
+use std::alloc::Global;
+
+/// The rows of a picture, from the upper one down: each word as 16 hexadecimal digits in lower case,
+/// parted by one space, and a line feed at the end of each row.
+pub(crate) fn picture_text(alloc: Global, words: &[u64], width: u32) -> Result<Vec<u8>, Memory>
+    requires some_column { 1 ≤ width }
+    requires few_columns { width ≤ 512 }
+    requires whole_rows { length words.now % width ≡ 0 }
+    ensures { IfOk result (λ text. text.items ≡ picture_text_of words.now width) }
+{
+    let width = width as usize;
+    let mut text = Vec::with_capacity(alloc, words.len().saturating_mul(17))?;
+    for row in 0..words.len() / width {
+        push_row(&mut text, &words[row * width..(row + 1) * width])?;
+        text.push(b'\n')?;
+    }
+    Ok(text)
+}
+
+/// Adds the words of a row, parted by one space.
+fn push_row(text: &mut Vec<u8>, row: &[u64]) -> Result<(), Memory>
+    ensures { OnOk result (text.new.items ≡ text.old.items ++ row_text row.now) }
+{
+    for (column, word) in row.iter().enumerate() {
+        if column > 0 {
+            text.push(b' ')?;
+        }
+        push_word(text, *word)?;
+    }
+    Ok(())
+}
+
+/// Adds the 16 digits of a word.
+#[tactic(auto, unfolding(crate::specs::PictureText::word_text))]
+fn push_word(text: &mut Vec<u8>, word: u64) -> Result<(), Memory>
+    ensures { OnOk result (text.new.items ≡ text.old.items ++ word_text word) }
+{
+    let mut digits = [0; 16];
+    let written = hex::encode_to_slice(word.to_be_bytes(), &mut digits);
+    prove!(written.is_ok());
+    text.extend_from_slice(&digits)?;
+    Ok(())
+}
