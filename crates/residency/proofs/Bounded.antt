@@ -1,5 +1,5 @@
 -- A journal that a text spells has a layout in bounds.
-use Rattle.std.proofs.Common.{◌≡◌, ◌&&◌, ℕ, ◌+◌, ◌-◌, ◌<◌, ◌≤◌, ◌^◌, List, [], ◌∷◌, ◌++◌, Bool, true, false, Option, None, Some, Result, Ok, Err, codes, length, get_or, replicate, arith, inl, inr, refl, subst, sym, ap, ◌∙◌, length-append}
+use Rattle.std.proofs.Common.{◌≡◌, ◌&&◌, ℕ, ◌+◌, ◌-◌, ◌<◌, ◌≤◌, ◌^◌, List, [], ◌∷◌, ◌++◌, Bool, true, false, Option, None, Some, Ok, codes, length, get_or, replicate, arith, inl, inr, refl, subst, sym, ap, ◌∙◌, length-append}
 use Rattle.std.specs.Prelude.{if◌then◌else◌, nat_le, slice_index_or, EachIndex}
 use Rattle.std.specs.List.{All}
 use Rattle.std.specs.Option.{option_map, option_map_or}
@@ -11,8 +11,9 @@ use Rattle.std.proofs.lemmas.Bool.{cases_lt}
 use Rattle.std.proofs.lemmas.List.{get_or_past, length-replicate, get_or-replicate}
 use Rattle.std.proofs.lemmas.List.Elements.{All-cons, All-nil}
 use Rattle.residency.proofs.FittingUppers.{all_below-from_All, at_least, both}
+use Rattle.residency.proofs.KeptByLines.{LinesKeep, journal_keeps}
 use Rattle.residency.specs.Layout.{CountsFit, InBounds, UppersFit, ascends}
-use Rattle.residency.specs.Grammar.{◌>>=◌, after_line, after_word, at_end, below, completed, headed, is_comment, is_empty, is_numeral, journal_of, layout_of, lines_of, number_of, numbers_of, parts_of, read_from, some_numbers_of, triple, up_to, with_entry, with_line, with_upper, entry_of}
+use Rattle.residency.specs.Grammar.{◌>>=◌, after_word, below, completed, headed, is_empty, is_numeral, journal_of, layout_of, number_of, numbers_of, some_numbers_of, triple, up_to, with_entry, with_line, with_upper, entry_of}
 use Rattle.residency.specs.declared.journals.Journal.{Journal}
 use Rattle.residency.specs.declared.layouts.Layout.{Layout}
 
@@ -28,7 +29,7 @@ get_or_replicated n k =
     ]
 
 -- the first reading gave something, where both together did
-bind_some : {A B : Type 0} (first : Option A) (next : A → Option B) (y : B) → (first >>= next) ≡ Some y → (x : A) × (first ≡ Some x) × (next x ≡ Some y)
+pub bind_some : {A B : Type 0} (first : Option A) (next : A → Option B) (y : B) → (first >>= next) ≡ Some y → (x : A) × (first ≡ Some x) × (next x ≡ Some y)
 bind_some None next y e = cc
 bind_some (Some x) next y e = (x, refl, e)
 
@@ -53,7 +54,8 @@ numbers_lt limit (part ∷ rest) numbers e =
     let more = bind_some (numbers_of limit rest) _ numbers first.2 in
     numbers_step limit first.0 more.0 numbers (number_lt limit part first.0 first.1) (numbers_lt limit rest more.0 more.1) more.2
 
-some_numbers_lt : (limit : ℕ) (parts : List (List ℕ)) (numbers : List ℕ) → some_numbers_of limit parts ≡ Some numbers → All (λ n. n < limit) numbers
+-- numbers that were read are below their limit
+pub some_numbers_lt : (limit : ℕ) (parts : List (List ℕ)) (numbers : List ℕ) → some_numbers_of limit parts ≡ Some numbers → All (λ n. n < limit) numbers
 some_numbers_lt limit [] numbers e = cc
 some_numbers_lt limit (part ∷ rest) numbers e = numbers_lt limit (part ∷ rest) numbers e
 
@@ -174,11 +176,6 @@ entry_bounds : (journal next : Journal) (parts : List (List ℕ)) → HasDraftBo
 unfolding with_entry
 entry_bounds journal next parts h e = entry_keeps journal next (entry_of parts) h e
 
--- what the lines so far say, where they say something
-abbrev pub SaysBounds : Option Journal → Type 0
-SaysBounds None = Unit {0}
-SaysBounds (Some journal) = HasDraftBounds journal.layout
-
 begun_bounds : (layout : Option Layout) (next : Journal) → ((found : Layout) → layout ≡ Some found → HasDraftBounds found) → option_map (λ layout. record { layout = layout; entries = [] }) layout ≡ Some next → HasDraftBounds next.layout
 begun_bounds None next h e = cc
 begun_bounds (Some layout) next h e =
@@ -190,24 +187,14 @@ either_bounds : (journal next : Journal) (rest : Option (List (List ℕ))) (part
 either_bounds journal next None parts h e = entry_bounds journal next parts h e
 either_bounds journal next (Some rest) parts h e = upper_bounds journal next rest h e
 
-line_bounds : (said : Option Journal) (next : Journal) (parts : List (List ℕ)) → SaysBounds said → with_line said parts ≡ Some next → HasDraftBounds next.layout
+-- a draft in bounds
+abbrev IsBoundedDraft : Journal → Type 0
+IsBoundedDraft journal = HasDraftBounds journal.layout
+
+line_bounds : LinesKeep IsBoundedDraft
 unfolding with_line
 line_bounds None next parts h e = begun_bounds (layout_of parts) next (λ found is. layout_bounds parts found is) e
 line_bounds (Some journal) next parts h e = either_bounds journal next (after_word (codes "upper") parts) parts h e
-
-said_bounds : (journal : Option Journal) (next : Option Journal) → ((found : Journal) → journal ≡ Some found → HasDraftBounds found.layout) → option_map Some journal ≡ Some next → SaysBounds next
-said_bounds None next h e = cc
-said_bounds (Some journal) next h e =
-    let is : Some journal ≡ next = cc in subst SaysBounds is (h journal refl)
-
-told_bounds : (comment : Bool) (said next : Option Journal) (parts : List (List ℕ)) → SaysBounds said → (if comment then Some said else option_map Some (with_line said parts)) ≡ Some next → SaysBounds next
-told_bounds true said next parts h e =
-    let is : said ≡ next = cc in subst SaysBounds is h
-told_bounds false said next parts h e = said_bounds (with_line said parts) next (λ found is. line_bounds said found parts h is) e
-
-after_bounds : (said next : Option Journal) (text : List ℕ) → SaysBounds said → after_line said text ≡ Some next → SaysBounds next
-unfolding after_line
-after_bounds said next text h e = told_bounds (is_comment text) said next (parts_of text) h e
 
 completed_bounds : (journal : Journal) → HasDraftBounds journal.layout → InBounds (completed journal).layout
 unfolding completed
@@ -218,22 +205,7 @@ completed_bounds journal h =
       uppers = λ k lt. filled journal.layout.uppers k (journal.layout.pages - length journal.layout.uppers) h.below;
     }
 
-end_bounds : (said : Option Journal) (line : ℕ) (journal : Journal) → SaysBounds said → at_end said line ≡ Ok journal → InBounds journal.layout
-end_bounds None line journal h e = cc
-end_bounds (Some said) line journal h e =
-    let is : completed said ≡ journal = cc in subst (λ journal. InBounds journal.layout) is (completed_bounds said h)
-
-next_bounds : (next : Option (Option Journal)) (read : Option Journal → Result Journal ℕ) (line : ℕ) (journal : Journal) → ((found : Option Journal) → next ≡ Some found → SaysBounds found) → ((found : Option Journal) → SaysBounds found → read found ≡ Ok journal → InBounds journal.layout) → option_map_or read next (Err line) ≡ Ok journal → InBounds journal.layout
-next_bounds None read line journal h after e = cc
-next_bounds (Some found) read line journal h after e = after found (h found refl) e
-
-read_bounds : (lines : List (List ℕ)) (said : Option Journal) (line : ℕ) (journal : Journal) → SaysBounds said → read_from said line lines ≡ Ok journal → InBounds journal.layout
-read_bounds [] said line journal h e = end_bounds said line journal h e
-read_bounds (text ∷ rest) said line journal h e =
-    next_bounds (after_line said text) (λ now_said. read_from now_said (line + 1) rest) line journal
-    (λ found is. after_bounds said found text h is)
-    (λ found bounds is. read_bounds rest found (line + 1) journal bounds is) e
-
 -- the layout that a text spells
 pub journal_bounds : (text : List ℕ) (journal : Journal) → journal_of text ≡ Ok journal → InBounds journal.layout
-journal_bounds text journal e = read_bounds (lines_of text) None 1 journal tt e
+journal_bounds text journal e =
+    journal_keeps IsBoundedDraft (λ journal. InBounds journal.layout) line_bounds completed_bounds text journal e

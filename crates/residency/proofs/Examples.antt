@@ -6,6 +6,9 @@ use Rattle.residency.specs.declared.entries.Entry.{Entry}
 use Rattle.residency.specs.declared.entries.What.{What}
 use Rattle.residency.specs.declared.entries.What.TheVariants.{Pin, Settle, Narrow, Unpin, Take, Install, Fail, Stop}
 use Rattle.residency.specs.declared.layouts.Layout.{Layout}
+use Rattle.residency.specs.declared.nexts.Next.TheVariants as Next
+use Rattle.residency.specs.Next.{next_after}
+use Rattle.residency.specs.State.{residency}
 use Rattle.residency.specs.Rules.{first_refused}
 
 abbrev entry : ℕ → What → Entry
@@ -78,13 +81,23 @@ two = record { pages = 2; roots = 1; slots = 2; uppers = [] ∷ [] ∷ [] }
 pub pin_again : first_refused two (entry 0 (Pin 0) ∷ entry 0 (Unpin 0) ∷ entry 0 (Pin 0) ∷ []) ≡ Some 2
 pin_again = refl
 
+-- one that is live looks again
+pub pin_live : first_refused two (entry 0 (Pin 0) ∷ entry 0 (Pin 0) ∷ []) ≡ None
+pin_live = refl
+
 -- a frame is its owner's alone
 pub other_maker : first_refused two (entry 0 (Pin 0) ∷ entry 1 (Unpin 0) ∷ []) ≡ Some 1
 other_maker = refl
 
+pub own_maker : first_refused two (entry 0 (Pin 0) ∷ entry 0 (Unpin 0) ∷ []) ≡ None
+own_maker = refl
+
 -- the second stop
 pub stop_again : first_refused two (entry 0 Stop ∷ entry 0 Stop ∷ []) ≡ Some 1
 stop_again = refl
+
+pub stop_once : first_refused two (entry 0 (Pin 0) ∷ entry 0 Stop ∷ []) ≡ None
+stop_once = refl
 
 -- a failed read raises the count of faults
 pub fail_unraised : first_refused two (entry 0 (Pin 0) ∷ entry 0 (Settle 0 (0 ∷ []) (1 ∷ [])) ∷ entry 0 (Take (Some 0) 1 None) ∷ entry 0 (Fail 1 3 3) ∷ []) ≡ Some 3
@@ -92,3 +105,27 @@ fail_unraised = refl
 
 pub fail_raised : first_refused two (entry 0 (Pin 0) ∷ entry 0 (Settle 0 (0 ∷ []) (1 ∷ [])) ∷ entry 0 (Take (Some 0) 1 None) ∷ entry 0 (Fail 1 3 4) ∷ []) ≡ None
 fail_raised = refl
+
+-- What comes next: a page into a free slot, a page for a victim, no victim, a page that is loading, nothing.
+pub next_free : next_after shared asked_shared (Some 0) ≡ Next.Take 1 None
+next_free = refl
+
+pub next_for_victim : next_after crowded crowded_journal (Some 1) ≡ Next.Take 5 (Some 4)
+next_for_victim = refl
+
+pub next_full : next_after (record shared { slots = 1 }) asked_shared (Some 0) ≡ Next.Full 1
+next_full = refl
+
+abbrev loading_shared : List Entry
+loading_shared = asked_shared ++ entry 0 (Take (Some 0) 1 None) ∷ []
+
+pub next_busy : next_after shared loading_shared (Some 0) ≡ Next.Busy 1
+next_busy = refl
+
+-- no frame is named, so none is busy
+pub next_nothing : next_after shared loading_shared None ≡ Next.Nothing
+next_nothing = refl
+
+-- the residency, ascending
+pub residency_shared : residency shared loaded_shared ≡ 0 ∷ 1 ∷ 2 ∷ []
+residency_shared = refl

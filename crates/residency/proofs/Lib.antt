@@ -1,11 +1,12 @@
-mod ExamplesText
 pub mod Bounded
 pub mod Choices
 pub mod Cuts
 pub mod Examples
+mod ExamplesText
 pub mod FittingUppers
 pub mod Flags
 pub mod HexDigits
+pub mod KeptByLines
 pub mod LegalJournals
 pub mod Limits
 pub mod Missing
@@ -22,3 +23,4 @@ pub mod Ranges
 pub mod Soundness
 pub mod Stalest
 pub mod Tests
+pub mod WithinTypes

@@ -73,7 +73,7 @@ is_wrong (Short got) = nat_lt got 65536
 
 -- the table of entries: whether a maker may enter this after the journal, which leaves the state s
 abbrev pub allows : Layout → State → List Entry → ℕ → What → Bool
-allows layout s journal by (Pin frame) = not (has_entry frame journal) || owns s by frame
+allows layout s journal by (Pin frame) = owns s by frame || not (has_entry frame journal)
 allows layout s journal by (Settle frame pages missing) =
     owns s by frame
     && (is_page_list layout pages

@@ -198,7 +198,7 @@ fn the_stalest_page_is_evicted(rt: HostRuntime) {
         (1, Settle(1, &[0], &[5])),
     ];
     let cases = [
-        ("4, named at 9", (1, Take(Some(1), 5, Some(4))), true),
+        ("page 4, named at 9", (1, Take(Some(1), 5, Some(4))), true),
         ("2, named at 11", (1, Take(Some(1), 5, Some(2))), false),
         ("3, which is pinned", (1, Take(Some(1), 5, Some(3))), false),
         ("1, an upper of 2", (1, Take(Some(1), 5, Some(1))), false),
@@ -437,7 +437,7 @@ fn wants_come_and_go(rt: HostRuntime) {
     let after_ask = [("a page asked for isn't pinned", (0, Narrow(0, &[1])), false)];
     assert_next(&rt, rt.alloc(), plan, &asked, &after_ask);
     let left = [(0, Pin(0)), (0, Ask(0, &[1])), (0, Unpin(0))];
-    let outlives = [("a want outlives its frame", (1, Take(None, 1, None)), true)];
+    let outlives = [("a want outlives a frame", (1, Take(None, 1, None)), true)];
     assert_next(&rt, rt.alloc(), plan, &left, &outlives);
     let forgotten = [left[0], left[1], left[2], (0, Pin(2)), (0, Ask(2, &[2]))];
     let gone = [("up to the next ask", (1, Take(None, 1, None)), false)];

@@ -1,5 +1,7 @@
 ghost use Rattle.std.specs.Prelude.{◌≡◌, ◌<◌, ◌∷◌, Err, IfOk, MatchOption, Ok, [], length, ℕ};
 ghost use Rattle.residency.specs.Layout.{InBounds};
+ghost use Rattle.std.specs.List.{All};
+ghost use Rattle.residency.specs.Typed.{IsTyped};
 ghost use Rattle.residency.specs.Grammar.{after_line, is_comment, journal_of, lines_of, with_line};
 
 use crate::drafts::Draft;
@@ -114,6 +116,7 @@ fn journal_or_line(alloc: Global, text: &[u8]) -> Result<Result<Journal, u64>, M
 pub fn read_journal(alloc: Global, text: &[u8]) -> Result<Journal, JournalFault>
     ensures read { IfOk result (λ journal. journal_of text.now ≡ Ok journal) }
     ensures in_bounds { IfOk result (λ journal. InBounds journal.layout) }
+    ensures typed { IfOk result (λ journal. All IsTyped journal.entries) }
     ensures outside { (line : ℕ) → result ≡ Err (JournalFault.Line line) →
         journal_of text.now ≡ Err line }
 {
@@ -250,6 +253,16 @@ mod tests {
         let largest = read_journal(rt.alloc(), b"layout 1 1 8388608\n")?;
         assert_eq!(rt; largest.layout.slots, 8_388_608);
         Ok(())
+    }
+
+    #[test]
+    fn want_of_memory_is_no_wrong_line(rt: HostRuntime) {
+        let text =
+            b"layout 5 2 4\nupper 4 2 3\n0 settle 7 pages 0 1 missing 3\n0 settle 7 pages - missing -\n0 ask 1 pages 4\n0 stop\n";
+        match read_journal(rt.alloc(), text) {
+            Ok(journal) => assert_eq!(rt; journal.entries.as_slice().len(), 4),
+            Err(fault) => assert_eq!(rt; fault, JournalFault::Memory),
+        }
     }
 
     #[test]

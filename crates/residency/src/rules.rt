@@ -160,7 +160,7 @@ pub fn allows(layout: &Layout, standing: &Standing, journal: &[Entry], entry: &E
 {
     let by = entry.by;
     match &entry.what {
-        What::Pin { frame } => !has_entry(*frame, journal) || standing.owns(by, *frame),
+        What::Pin { frame } => standing.owns(by, *frame) || !has_entry(*frame, journal),
         What::Settle {
             frame,
             pages,
