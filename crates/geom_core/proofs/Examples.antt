@@ -9,6 +9,8 @@ use Rattle.geom_core.specs.Distance.{distance, outside, box_distance}
 use Rattle.geom_core.specs.Boxes.{is_under, holds_point, holds_box, low_of, high_of, join_of, hull_of}
 use Rattle.geom_core.specs.EdgeSum.{same_point, edges_of, edge_count, edge_sum, is_rim_edge}
 use Rattle.geom_core.specs.Camera.{View, along, on_screen, reversed_depth, spot_of}
+use Rattle.std.specs.declared.cmp.Ordering.TheVariants.{Less, Equal, Greater}
+use Rattle.geom_core.specs.Order.{point_cmp}
 use Rattle.geom_core.specs.Winding.{edge_function, passes, crossing, winding}
 use Rattle.geom_core.specs.Depth.{divisor, weighted, held, depth}
 use Rattle.geom_core.specs.Coverage.{covers, covered, word_at}
@@ -175,6 +177,19 @@ edge_sum-along = refl
 pub edge_sum-against : edge_sum square corner_b corner_a ≡ negsuc 0
 unfolding edge_sum edge_count edges_of same_point
 edge_sum-against = refl
+
+-- x decides before y and z, then y, then z
+pub point_cmp-by_x : point_cmp (point (pos 1) (negsuc 8) (negsuc 8)) (point (pos 0) (pos 9) (pos 9)) ≡ Greater
+point_cmp-by_x = refl
+
+pub point_cmp-by_y : point_cmp (point (pos 1) (negsuc 8) (pos 9)) (point (pos 1) (pos 0) (pos 0)) ≡ Less
+point_cmp-by_y = refl
+
+pub point_cmp-by_z : point_cmp (point (pos 1) (pos 2) (pos 4)) (point (pos 1) (pos 2) (pos 3)) ≡ Greater
+point_cmp-by_z = refl
+
+pub point_cmp-same : point_cmp (point (pos 1) (pos 2) (pos 3)) (point (pos 1) (pos 2) (pos 3)) ≡ Equal
+point_cmp-same = refl
 
 -- the greatest of the axes' distances
 pub distance-example : distance (point (pos 1) (negsuc 4) (pos 2)) (point (pos 4) (pos 2) (pos 2)) ≡ 7
