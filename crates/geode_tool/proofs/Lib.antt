@@ -1,7 +1,11 @@
 pub mod Along
+pub mod AuditAnswers
+pub mod AuditExamples
 pub mod Bounds
 pub mod CameraRanges
 pub mod CameraWords
+pub mod CommandWords
+pub mod DrawAnswers
 pub mod DrawWords
 pub mod DrawnItems
 pub mod Greatest
@@ -10,6 +14,7 @@ pub mod NumberParts
 pub mod Numerals
 pub mod OnScreen
 pub mod Spots
+pub mod TakenTexts
 pub mod TextExamples
 pub mod TextRows
 pub mod WordExamples

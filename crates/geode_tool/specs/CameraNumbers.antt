@@ -3,7 +3,6 @@ use Rattle.std.specs.Prelude.{◌+◌, ◌<◌, ◌≤◌, ◌^◌, ◌||◌, �
 use Rattle.std.specs.List.{slice_index_or}
 use Rattle.geom_core.specs.declared.points.Pt.{Pt}
 use Rattle.geom_core.specs.declared.screens.Spot.{Spot}
-use Rattle.geom_core.specs.declared.screens.Size.{Size}
 use Rattle.geom_core.specs.Camera.{Direction, View}
 
 -- from -most to most

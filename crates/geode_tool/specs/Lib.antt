@@ -1,8 +1,12 @@
+pub mod Audit
 pub mod CameraFields
 pub mod CameraNumbers
+pub mod Commands
 pub mod Draw
 pub mod Faults
+pub mod Outputs
 pub mod PictureText
 pub mod Rows
 pub mod Statuses
+pub mod Texts
 pub mod Words

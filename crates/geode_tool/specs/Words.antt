@@ -1,10 +1,12 @@
--- The words that `draw` takes: the command's name, the picture's width and height, and the camera.
-use Rattle.std.specs.Prelude.{◌==◌, ◌&&◌, ℕ, ℤ, pos, neg_ℤ, nat_lt, nat_le, Bool, List, [], ◌∷◌, length, drop, slice_index, Option, Some, None, option_map, option_and_then, is_none, bytes_eq, codes, if◌then◌else◌}
+-- The words of the commands: `draw` with the picture's width and height and the camera, and `audit` alone.
+use Rattle.std.specs.Prelude.{◌==◌, ◌&&◌, ℕ, ℤ, pos, neg_ℤ, nat_lt, nat_le, Bool, false, List, [], ◌∷◌, length, drop, slice_index, Option, Some, None, option_map, option_and_then, is_none, bytes_eq, codes, if◌then◌else◌}
 use Rattle.std.specs.List.{slice_split, list_all}
 use Rattle.std.specs.Char.{is_ascii_digit}
 use Rattle.std.specs.Str.{byte}
 use Rattle.std.specs.Str.Parse.{digits_value}
 use Rattle.geom_core.specs.Camera.{View}
+use Rattle.geode_tool.specs.declared.commands.Command.{Command}
+use Rattle.geode_tool.specs.declared.commands.Command.TheVariants.{Draw, Audit}
 use Rattle.geode_tool.specs.declared.commands.Drawing.{Drawing}
 use Rattle.geode_tool.specs.CameraNumbers.{first_bad, view_of_numbers}
 
@@ -66,3 +68,12 @@ draw_words (name ∷ width ∷ height ∷ numbers ∷ []) =
       Some (record { size = record { width = columns; height = rows }; camera = view }))
     else None
 draw_words _ = None
+
+-- the words are `audit` alone
+abbrev pub is_audit : List (List ℕ) → Bool
+is_audit (name ∷ []) = bytes_eq name (codes "audit")
+is_audit _ = false
+
+-- the command that the words ask for
+unfoldable pub command_words : List (List ℕ) → Option Command
+command_words words = if is_audit words then Some Audit else option_map Draw (draw_words words)

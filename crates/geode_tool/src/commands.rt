@@ -1,11 +1,13 @@
-ghost use Rattle.std.specs.Prelude.{◌≡◌, ◌==◌, ◌^◌, ◌≤◌, ◌<◌, true, map, length, IfSome};
+ghost use Rattle.std.specs.Prelude.{◌≡◌, ◌==◌, ◌^◌, ◌≤◌, ◌<◌, true, map, length, Some, IfSome};
 ghost use Rattle.std.specs.Char.{is_ascii_digit};
 ghost use Rattle.std.specs.List.{list_all, slice_split};
 ghost use Rattle.std.specs.Str.{byte};
 ghost use Rattle.std.specs.Str.Parse.{digits_value};
 ghost use Rattle.geom_core.specs.Coverage.{IsPicture};
+ghost use Rattle.geode_tool.specs.Words.{command_words, is_audit};
 ghost use Rattle.geode_tool.specs.Words.{draw_words, whole_number, signed_number, side, camera};
 ghost use Rattle.geode_tool.specs.Words.{is_numeral, is_side, numbers_of, fifteen};
+ghost use Rattle.geode_tool.specs.declared.commands.Drawing.{Drawing};
 
 use crate::cameras::Camera;
 use geom_core::Size;
@@ -16,6 +18,15 @@ const SIDE_DIGITS: usize = 10;
 /// The most digits of a camera's number.
 const CAMERA_DIGITS: usize = 11;
 
+/// What the program is asked for.
+#[derive(Clone, Copy, Debug, PartialEq, Eq)]
+pub(crate) enum Command {
+    /// `draw`: to draw a mesh.
+    Draw(Drawing),
+    /// `audit`: to say whether each entry of a journal was allowed.
+    Audit,
+}
+
 /// What `draw` is asked for.
 #[derive(Clone, Copy, Debug, PartialEq, Eq)]
 pub(crate) struct Drawing {
@@ -25,9 +36,31 @@ pub(crate) struct Drawing {
     pub(crate) camera: Camera,
 }
 
+/// The command that the program's words ask for, if they have the form of one.
+pub(crate) fn command_of(words: &[&str]) -> Option<Command>
+    ensures asked { result ≡ command_words (map (λ w. w.now) words.now) }
+    ensures in_range { (drawing : Drawing) → result ≡ Some (Command.Draw drawing)
+        → IsPicture drawing.size }
+{
+    if is_audit(words) {
+        return Some(Command::Audit);
+    }
+    Some(Command::Draw(draw_of(words)?))
+}
+
+/// Whether the words are `audit` alone.
+fn is_audit(words: &[&str]) -> bool
+    ensures { result ≡ is_audit (map (λ w. w.now) words.now) }
+{
+    match words {
+        [name] => *name == "audit",
+        _ => false,
+    }
+}
+
 /// The drawing that the program's words ask for, if they are `draw`, a width, a height and a camera, each
 /// in its range. A camera is fifteen numbers joined by commas, in the order of `Camera::new`.
-pub(crate) fn draw_of(words: &[&str]) -> Option<Drawing>
+fn draw_of(words: &[&str]) -> Option<Drawing>
     ensures asked { result ≡ draw_words (map (λ w. w.now) words.now) }
     ensures in_range { IfSome result (λ drawing. IsPicture drawing.size) }
 {
@@ -146,9 +179,13 @@ mod tests {
 
     #[test]
     fn words_are_taken(rt: HostRuntime) {
-        let cases: [(&str, &[&str], bool); 13] = [
+        let cases: [(&str, &[&str], bool); 17] = [
             ("a drawing", &["draw", "4", "4", CAMERA], true),
             ("zeros first", &["draw", "0004", "0000000512", CAMERA], true),
+            ("an audit", &["audit"], true),
+            ("a word behind `audit`", &["audit", CAMERA], false),
+            ("`audit` in upper case", &["Audit"], false),
+            ("the words of both", &["audit", "4", "4", CAMERA], false),
             ("no words", &[], false),
             ("no camera", &["draw", "4", "4"], false),
             ("too many words", &["draw", "4", "4", CAMERA, "4"], false),
@@ -166,7 +203,7 @@ mod tests {
             ("two numbers", &["draw", "4", "4", "0,1"], false),
         ];
         for (name, words, want) in cases {
-            assert_eq!(rt; draw_of(words).is_some(), want, "{name}");
+            assert_eq!(rt; command_of(words).is_some(), want, "{name}");
         }
     }
 
@@ -190,7 +227,7 @@ mod tests {
         ];
         for (name, numbers, want) in cases {
             let words = ["draw", "4", "4", numbers];
-            assert_eq!(rt; draw_of(&words).is_some(), want, "{name}");
+            assert_eq!(rt; command_of(&words).is_some(), want, "{name}");
         }
     }
 }

@@ -1,32 +1,68 @@
-ghost use Rattle.std.specs.Prelude.{◌≡◌, ◌≤◌, IfOk, IfErr, OnOk};
-ghost use Rattle.obj_source.specs.Readings.{ReadToEnd};
+ghost use Rattle.std.specs.Prelude.{◌≡◌, ◌≢◌, ◌≤◌, Err, true, IfOk, IfErr, OnOk};
+ghost use Rattle.span_io.specs.Faults.{Rose};
 ghost use Rattle.geom_core.specs.Coverage.{IsPicture};
-ghost use Rattle.geode_tool.specs.Draw.{IsDrawn, InputRefused};
+ghost use Rattle.geode_tool.specs.Commands.{AnswersOrFails, may_refuse};
+ghost use Rattle.geode_tool.specs.Draw.{draw_answer, IsDrawn, DrawRefused};
+ghost use Rattle.geode_tool.specs.Outputs.{WritesWhole, WritesFront};
+ghost use Rattle.geode_tool.specs.Texts.{ReadToEnd};
+ghost use Rattle.geode_tool.specs.declared.commands.Command.TheVariants as Command;
 
 use crate::commands::Drawing;
-use crate::faults::Fault;
+use crate::faults::{Done, Fault};
 use crate::picture_texts::picture_text;
 use crate::pictures::picture_of;
+use crate::writing::write_whole;
 use obj_source::read_obj;
-use span_io::Source;
+use span_io::{Sink, Source};
 use std::alloc::Global;
 
 /// How many steps of the grid a unit of a text's coordinates is.
 const SCALE: u32 = 1024;
 
-/// The text of a drawing, of the mesh that the input's text lists.
-pub(crate) fn drawn_text<S: Source>(
+/// Reads the text of a mesh, and writes the rows of its picture.
+pub(crate) fn draw<S: Source, K: Sink>(
     alloc: Global,
     drawing: &Drawing,
     input: &mut S,
-) -> Result<Vec<u8>, Fault>
+    out: &mut K,
+) -> Result<Done, Fault>
+    requires { IsPicture drawing.now.size }
+
+    ensures answered { AnswersOrFails draw_answer (S.left input.old) result }
+    ensures drawn { OnOk result (WritesWhole (IsDrawn drawing.now (S.left input.old))
+        (K.written out.old) (K.written out.new)) }
+    ensures own { IfOk result (λ done. done ≡ Done.Drawn) }
+    ensures ended { OnOk result (ReadToEnd (S.left input.old) (S.left input.new)) }
+    ensures flushed { OnOk result (K.flushed out.new ≡ true) }
+
+    ensures refusals { IfErr result
+        (λ fault. may_refuse (Command.Draw drawing.now) fault ≡ true) }
+    ensures read_fault { result ≡ Err Fault.ReadFault
+        → Rose (S.faults input.old) (S.faults input.new) }
+    ensures write_fault { result ≡ Err Fault.WriteFault
+        → Rose (K.faults out.old) (K.faults out.new) }
+    ensures front { result ≡ Err Fault.WriteFault
+        → WritesFront (IsDrawn drawing.now (S.left input.old))
+        (K.written out.old) (K.written out.new) }
+    ensures quiet { IfErr result (λ fault. fault ≢ Fault.WriteFault → out.new ≡ out.old) }
+
+    ensures input_count { S.faults input.old ≤ S.faults input.new }
+    ensures out_count { K.faults out.old ≤ K.faults out.new }
+{
+    let text = drawn_text(alloc, drawing, input)?;
+    write_whole(out, &text)?;
+    Ok(Done::Drawn)
+}
+
+/// The text of a drawing, of the mesh that the input's text lists.
+fn drawn_text<S: Source>(alloc: Global, drawing: &Drawing, input: &mut S) -> Result<Vec<u8>, Fault>
     requires { IsPicture drawing.now.size }
 
     ensures drawn { IfOk result (λ text. IsDrawn drawing.now (S.left input.old) text.items) }
     ensures ended { OnOk result (ReadToEnd (S.left input.old) (S.left input.new)) }
 
     ensures refused { IfErr result
-        (InputRefused (S.left input.old) (S.faults input.old) (S.faults input.new)) }
+        (DrawRefused (S.left input.old) (S.faults input.old) (S.faults input.new)) }
     ensures count { S.faults input.old ≤ S.faults input.new }
 {
     let tris = read_obj(alloc, input, SCALE)?;

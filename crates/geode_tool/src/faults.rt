@@ -1,8 +1,10 @@
 ghost use Rattle.std.specs.Prelude.{◌≡◌};
 ghost use Rattle.geode_tool.specs.Statuses.{status_of};
 
+use crate::texts::TextFault;
 use geom_core::Memory;
 use obj_source::ObjFault;
+use residency::{JournalFault, ReplayFault};
 use thiserror::Error;
 
 /// What a command did.
@@ -10,6 +12,11 @@ use thiserror::Error;
 pub enum Done {
     /// `draw` wrote the picture.
     Drawn,
+    /// `audit` wrote that the journal is legal.
+    Audited {
+        /// How many entries it has.
+        entries: u64,
+    },
 }
 
 /// What is wrong with the words of a command line.
@@ -29,13 +36,29 @@ pub enum Fault {
     /// The input failed before its end; nothing was written.
     #[error("input could not be read")]
     ReadFault,
+    /// The input has more bytes than the command reads: 2^26 for `audit`; nothing was written.
+    #[error("input too long")]
+    TooLong,
     /// The input is no text of the plain form that can be read so far; nothing was written.
     #[error("form not built yet")]
     LaterForm,
+    /// The input is no text of a journal; nothing was written.
+    #[error("journal line {line}")]
+    BadJournal {
+        /// The first line outside the grammar, from 1, counting each line; where no line stands for the
+        /// layout, the line after the last one.
+        line: u64,
+    },
+    /// An entry of the journal was not allowed after those before it; nothing was written.
+    #[error("entry {entry} not allowed")]
+    Illegal {
+        /// The place of the first such entry, from 0.
+        entry: u64,
+    },
     /// The output failed; some of the first bytes of the result were written, perhaps all.
     #[error("output could not be written")]
     WriteFault,
-    /// Memory ran out; some of the first bytes of the result were written, perhaps none.
+    /// Memory ran out; nothing was written.
     #[error("out of memory")]
     Memory,
 }
@@ -64,6 +87,46 @@ impl From<ObjFault> for Fault {
     }
 }
 
+impl From<TextFault> for Fault {
+    ghost use Rattle.geode_tool.specs.Faults.{fault_of_text};
+
+    ghost from_gives = { λ part fault. fault ≡ fault_of_text part };
+
+    fn from(part: TextFault) -> Fault {
+        match part {
+            TextFault::Read => Fault::ReadFault,
+            TextFault::TooLong => Fault::TooLong,
+            TextFault::Memory => Fault::Memory,
+        }
+    }
+}
+
+impl From<JournalFault> for Fault {
+    ghost use Rattle.geode_tool.specs.Faults.{fault_of_journal};
+
+    ghost from_gives = { λ part fault. fault ≡ fault_of_journal part };
+
+    fn from(part: JournalFault) -> Fault {
+        match part {
+            JournalFault::Line { line } => Fault::BadJournal { line },
+            JournalFault::Memory => Fault::Memory,
+        }
+    }
+}
+
+impl From<ReplayFault> for Fault {
+    ghost use Rattle.geode_tool.specs.Faults.{fault_of_replay};
+
+    ghost from_gives = { λ part fault. fault ≡ fault_of_replay part };
+
+    fn from(part: ReplayFault) -> Fault {
+        match part {
+            ReplayFault::Illegal { entry } => Fault::Illegal { entry },
+            ReplayFault::Memory => Fault::Memory,
+        }
+    }
+}
+
 impl Fault {
     /// The exit status that tells this fault from the others; 0 is left to success.
     pub fn status(&self) -> u8
@@ -74,6 +137,9 @@ impl Fault {
             Fault::Usage(_) => 3,
             Fault::ReadFault => 4,
             Fault::WriteFault => 5,
+            Fault::TooLong => 9,
+            Fault::BadJournal { .. } => 11,
+            Fault::Illegal { .. } => 17,
             Fault::LaterForm => 18,
         }
     }

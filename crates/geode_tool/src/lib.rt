@@ -4,6 +4,9 @@
 //! command reads and writes stands in `specs/`; the program `geode` only joins it to the terminal.
 #![tactic(auto)]
 
+#[cfg(test)]
+mod audit_tests;
+mod audits;
 mod cameras;
 mod canvases;
 mod commands;
@@ -13,6 +16,7 @@ mod picture_texts;
 mod pictures;
 #[cfg(test)]
 mod tests;
+mod texts;
 mod tool;
 mod writing;
 

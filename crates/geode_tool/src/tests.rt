@@ -63,13 +63,13 @@ fn text_of(alloc: Global, pixels: &Pixels) -> Result<Vec<u8>, Memory> {
 /// How a source and a sink behave: the most bytes of a call, and which call of each fails, from 1; at 0
 /// none does.
 #[derive(Clone, Copy)]
-struct Calls {
-    most: u32,
-    failing_read: u64,
-    failing_write: u64,
+pub(crate) struct Calls {
+    pub(crate) most: u32,
+    pub(crate) failing_read: u64,
+    pub(crate) failing_write: u64,
 }
 
-const SOUND: Calls = Calls {
+pub(crate) const SOUND: Calls = Calls {
     most: 65_536,
     failing_read: 0,
     failing_write: 0,
@@ -77,12 +77,17 @@ const SOUND: Calls = Calls {
 
 /// What a run answered, and what it wrote.
 #[derive(Drop)]
-struct Outcome {
-    answer: Result<Done, Fault>,
-    written: Vec<u8>,
+pub(crate) struct Outcome {
+    pub(crate) answer: Result<Done, Fault>,
+    pub(crate) written: Vec<u8>,
 }
 
-fn run(alloc: Global, words: &[&str], text: &str, calls: Calls) -> Result<Outcome, Memory>
+pub(crate) fn run(
+    alloc: Global,
+    words: &[&str],
+    text: &str,
+    calls: Calls,
+) -> Result<Outcome, Memory>
     requires { 1 ≤ calls.most }
 {
     let text = text.as_bytes().to_vec(alloc)?;
@@ -118,7 +123,7 @@ fn draws(rt: HostRuntime) -> Result<(), Fail> {
 fn refuses(rt: HostRuntime) -> Result<(), Fail> {
     let alloc = rt.alloc();
     let whole: &[&str] = &["draw", "4", "4", ABOVE];
-    let cases: [(&str, &[&str], &str, Fault); 5] = [
+    let cases: [(&str, &[&str], &str, Fault); 6] = [
         ("no bytes", whole, "", Fault::LaterForm),
         ("an exported plane", whole, EXPORT, Fault::LaterForm),
         ("a repeated corner", whole, REPEATED, Fault::LaterForm),
@@ -129,6 +134,12 @@ fn refuses(rt: HostRuntime) -> Result<(), Fail> {
             Fault::Usage(UsageKind::Line),
         ),
         ("no words", &[], TRIANGLE, Fault::Usage(UsageKind::Line)),
+        (
+            "a word behind `audit`",
+            &["audit", "-"],
+            "layout 1 1 1",
+            Fault::Usage(UsageKind::Line),
+        ),
     ];
     for (name, words, text, fault) in cases {
         let outcome = run(alloc, words, text, SOUND)?;
@@ -143,7 +154,10 @@ fn shows_faults(rt: HostRuntime) -> Result<(), Fail> {
     let cases = [
         (Fault::Usage(UsageKind::Line), 3, "usage: line"),
         (Fault::ReadFault, 4, "input could not be read"),
+        (Fault::TooLong, 9, "input too long"),
         (Fault::LaterForm, 18, "form not built yet"),
+        (Fault::BadJournal { line: 7 }, 11, "journal line 7"),
+        (Fault::Illegal { entry: 0 }, 17, "entry 0 not allowed"),
         (Fault::WriteFault, 5, "output could not be written"),
         (Fault::Memory, 2, "out of memory"),
     ];
@@ -221,7 +235,10 @@ fn draws_or_finds_no_memory(rt: HostRuntime) -> Result<(), Fail> {
     let alloc = rt.alloc();
     if let Ok(outcome) = run(alloc, &["draw", "4", "4", ABOVE], TRIANGLE, SOUND) {
         match outcome.answer {
-            Ok(Done::Drawn) => assert_eq!(rt; outcome.written.len() as u64, TEXT_LEN),
+            Ok(done) => {
+                assert_eq!(rt; done, Done::Drawn);
+                assert_eq!(rt; outcome.written.len() as u64, TEXT_LEN);
+            }
             Err(fault) => {
                 assert_eq!(rt; fault, Fault::Memory);
                 assert!(rt; outcome.written.is_empty());

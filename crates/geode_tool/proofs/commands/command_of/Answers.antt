@@ -1,0 +1,20 @@
+use Rattle.std.proofs.Common.{sym, ap, ◌∙◌, Option, option_map}
+use Rattle.geode_tool.specs.declared.commands.Command.TheVariants.{Draw}
+use Rattle.geode_tool.specs.declared.commands.Drawing.{Drawing}
+use Rattle.geode_tool.proofs.CommandWords.{command_words-audit, command_words-other}
+use Rattle.geode_tool.proofs.commands.command_of.Goals as goal
+
+pub returns-then-is_audit-clause-asked : goal.returns-then-is_audit-clause-asked
+returns-then-is_audit-clause-asked c =
+    sym (command_words-audit _ (sym c.is_audit.ensures ∙ c.if-is_audit.true))
+
+pub returns-in_err-draw_of-clause-asked : goal.returns-in_err-draw_of-clause-asked
+returns-in_err-draw_of-clause-asked c =
+    let none = sym c.draw_of.ensures.asked ∙ c.in_err-draw_of.was in
+    c.from_residual.ensures
+    ∙ sym (command_words-other _ (sym c.is_audit.ensures ∙ c.if-is_audit.false) ∙ ap (λ (drawing : Option Drawing). option_map Draw drawing) none)
+
+pub returns-clause-asked : goal.returns-clause-asked
+returns-clause-asked c =
+    let found = sym c.draw_of.ensures.asked ∙ c.in_ok-draw_of.was in
+    sym (command_words-other _ (sym c.is_audit.ensures ∙ c.if-is_audit.false) ∙ ap (λ (drawing : Option Drawing). option_map Draw drawing) found)

@@ -1,0 +1,64 @@
+-- What each command answers, writes and may refuse.
+use Rattle.std.specs.Prelude.{◌≡◌, ◌⊎◌, ℕ, List, map, Bool, true, false, IsTrue, Option, IfSome, Result, Ok, Err}
+use Rattle.std.specs.Borrow.{Bor}
+use Rattle.geode_tool.specs.declared.commands.Command.{Command}
+use Rattle.geode_tool.specs.declared.commands.Command.TheVariants.{Draw, Audit}
+use Rattle.geode_tool.specs.declared.faults.Done.{Done}
+use Rattle.geode_tool.specs.declared.faults.Done.TheVariants.{Drawn, Audited}
+use Rattle.geode_tool.specs.declared.faults.Fault.{Fault}
+use Rattle.geode_tool.specs.declared.faults.Fault.TheVariants.{Usage, ReadFault, TooLong, LaterForm, BadJournal, Illegal, WriteFault, Memory}
+use Rattle.geode_tool.specs.Audit.{audit_answer, IsVerdict}
+use Rattle.geode_tool.specs.Draw.{draw_answer, IsDrawn}
+use Rattle.geode_tool.specs.Words.{command_words}
+
+-- the command that the words ask for, if they ask for one
+abbrev pub asked : List (Bor (List ℕ)) → Option Command
+asked words = command_words (map (λ w. w.now) words)
+
+-- what a command answers for a text
+abbrev pub answer_of : Command → List ℕ → Result Done Fault
+answer_of (Draw drawing) text = draw_answer text
+answer_of Audit text = audit_answer text
+
+-- a read or a write failed, or memory ran out
+abbrev pub has_failed : Result Done Fault → Bool
+has_failed (Ok done) = false
+has_failed (Err (Usage kind)) = false
+has_failed (Err ReadFault) = true
+has_failed (Err TooLong) = false
+has_failed (Err LaterForm) = false
+has_failed (Err (BadJournal line)) = false
+has_failed (Err (Illegal entry)) = false
+has_failed (Err WriteFault) = true
+has_failed (Err Memory) = true
+
+-- for an input that tells its text: the answer is the text's, or something failed
+abbrev pub AnswersOrFails : (List ℕ → Result Done Fault) → Option (List ℕ) → Result Done Fault → Type 0
+AnswersOrFails answer input result = IfSome input (λ text. (result ≡ answer text) ⊎ IsTrue (has_failed result))
+
+-- which success is a command's own
+abbrev pub is_own : Command → Done → Bool
+is_own (Draw drawing) Drawn = true
+is_own (Draw drawing) (Audited entries) = false
+is_own Audit Drawn = false
+is_own Audit (Audited entries) = true
+
+-- which faults may come in a command, once its words are taken
+abbrev pub may_refuse : Command → Fault → Bool
+may_refuse command (Usage kind) = false
+may_refuse command ReadFault = true
+may_refuse Audit TooLong = true
+may_refuse (Draw drawing) TooLong = false
+may_refuse Audit LaterForm = false
+may_refuse (Draw drawing) LaterForm = true
+may_refuse Audit (BadJournal line) = true
+may_refuse (Draw drawing) (BadJournal line) = false
+may_refuse Audit (Illegal entry) = true
+may_refuse (Draw drawing) (Illegal entry) = false
+may_refuse command WriteFault = true
+may_refuse command Memory = true
+
+-- the text that a command writes for an input
+abbrev pub IsOutput : Command → Option (List ℕ) → List ℕ → Type 0
+IsOutput (Draw drawing) input text = IsDrawn drawing input text
+IsOutput Audit input text = IsVerdict input text

@@ -1,0 +1,17 @@
+-- What a command leaves behind what was written before.
+use Rattle.std.specs.Prelude.{◌≤◌, ℕ, List, length, take, Option}
+use Rattle.span_io.specs.Puts.{Appended}
+
+-- a whole text, of which the first argument holds
+pub record WritesWhole (IsOutput : List ℕ → Type 0) (written new_written : Option (List ℕ)) : Type 0 where
+  pub text : List ℕ
+  pub is_output : IsOutput text
+  pub appended : Appended written new_written text
+
+-- some first bytes of such a text, perhaps none or all
+pub record WritesFront (IsOutput : List ℕ → Type 0) (written new_written : Option (List ℕ)) : Type 0 where
+  pub text : List ℕ
+  pub is_output : IsOutput text
+  pub count : ℕ
+  pub within : count ≤ length text
+  pub appended : Appended written new_written (take count text)

@@ -1,0 +1,216 @@
+use crate::tests::{Calls, SOUND, run};
+use crate::{Done, Fault};
+use std::test::Fail;
+
+/// Two pages are loaded, the second after its upper.
+const LOADED: &str = "layout 3 1 3\n\
+    upper 1 0\n\
+    upper 2 0 1\n\
+    0 pin 0\n\
+    0 settle 0 pages 0 missing 1 2\n\
+    0 take 0 1 -\n\
+    0 install 1 0000000000000000000000000000000000000000000000000000000000000000\n\
+    0 take 0 2 -\n\
+    0 install 2 0000000000000000000000000000000000000000000000000000000000000000\n";
+
+/// The second is taken before its upper is resident.
+const TOO_SOON: &str = "layout 3 1 3\n\
+    upper 1 0\n\
+    upper 2 0 1\n\
+    0 pin 0\n\
+    0 settle 0 pages 0 missing 1 2\n\
+    0 take 0 2 -\n";
+
+/// All slots are used, and another frame wants one page more.
+const CROWDED: &str = "layout 6 1 5\n\
+    upper 1 0\n\
+    upper 2 0 1\n\
+    upper 3 0\n\
+    upper 4 0\n\
+    upper 5 0\n\
+    0 pin 0\n\
+    0 settle 0 pages 0 missing 1 2 3 4\n\
+    0 take 0 1 -\n\
+    0 install 1 0000000000000000000000000000000000000000000000000000000000000000\n\
+    0 take 0 2 -\n\
+    0 install 2 0000000000000000000000000000000000000000000000000000000000000000\n\
+    0 take 0 3 -\n\
+    0 install 3 0000000000000000000000000000000000000000000000000000000000000000\n\
+    0 take 0 4 -\n\
+    0 install 4 0000000000000000000000000000000000000000000000000000000000000000\n\
+    0 pin 0\n\
+    0 narrow 0 pages 2 3\n\
+    0 narrow 0 pages 3\n\
+    1 pin 1\n\
+    1 settle 1 pages 0 missing 5\n";
+
+/// A report: what it says of a frame stands in lines that begin with `#`.
+const REPORT: &str =
+    "# frame 0 at 1 resident 0 missing - nodes 1 lit 1 sha256 0000000000000000000000000000000000000000000000000000000000000000\n\
+    # cut 0\n\
+    layout 1 1 1\n\
+    #0 stop\n\
+    0 pin 0\n\
+    # 0000000000000001\n\
+    0 unpin 0\n";
+
+const AUDIT: &[&str] = &["audit"];
+
+#[test]
+fn legal_journals_are_counted(rt: HostRuntime) -> Result<(), Fail> {
+    let alloc = rt.alloc();
+    let last_taken = format!(in alloc; "{CROWDED}1 take 1 5 4")?;
+    let cases = [
+        ("a layout alone", "layout 1 1 1", 0, "legal 0\n"),
+        ("pages after their uppers", LOADED, 6, "legal 6\n"),
+        (
+            "the page named longest ago is evicted",
+            last_taken.as_str(),
+            16,
+            "legal 16\n",
+        ),
+        ("a report", REPORT, 2, "legal 2\n"),
+    ];
+    for (name, text, entries, verdict) in cases {
+        let outcome = run(alloc, AUDIT, text, SOUND)?;
+        assert_eq!(rt; outcome.answer, Ok(Done::Audited { entries }), "{name}");
+        assert_eq!(rt; outcome.written.as_slice(), verdict.as_bytes(), "{name}");
+    }
+    Ok(())
+}
+
+#[test]
+fn the_first_fault_is_named(rt: HostRuntime) -> Result<(), Fail> {
+    let alloc = rt.alloc();
+    let named_later = format!(in alloc; "{CROWDED}1 take 1 5 2")?;
+    let pinned = format!(in alloc; "{CROWDED}1 take 1 5 3")?;
+    let no_victim = format!(in alloc; "{CROWDED}1 take 1 5 -")?;
+    let line_8 = format!(in alloc; "{REPORT}0 pins 0")?;
+    let cases = [
+        ("no bytes", "", Fault::BadJournal { line: 1 }),
+        (
+            "a leading zero",
+            "layout 1 1 1\n0 pin 01",
+            Fault::BadJournal { line: 2 },
+        ),
+        (
+            "comments are lines",
+            line_8.as_str(),
+            Fault::BadJournal { line: 8 },
+        ),
+        (
+            "a wrong line behind a wrong entry",
+            "layout 2 1 2\n0 stop\n0 stop\nstop",
+            Fault::BadJournal { line: 4 },
+        ),
+        (
+            "an upper that isn't resident",
+            TOO_SOON,
+            Fault::Illegal { entry: 2 },
+        ),
+        (
+            "a victim named later",
+            named_later.as_str(),
+            Fault::Illegal { entry: 15 },
+        ),
+        (
+            "a pinned victim",
+            pinned.as_str(),
+            Fault::Illegal { entry: 15 },
+        ),
+        (
+            "no victim",
+            no_victim.as_str(),
+            Fault::Illegal { entry: 15 },
+        ),
+        (
+            "a frame that ended",
+            "layout 2 1 2\n0 pin 0\n0 unpin 0\n0 pin 0\n",
+            Fault::Illegal { entry: 2 },
+        ),
+        (
+            "another maker's frame",
+            "layout 2 1 2\n0 pin 0\n1 unpin 0\n",
+            Fault::Illegal { entry: 1 },
+        ),
+        (
+            "a second stop",
+            "layout 2 1 2\n0 stop\n0 stop\n",
+            Fault::Illegal { entry: 1 },
+        ),
+        (
+            "a failed load without a fault",
+            "layout 2 1 2\n0 pin 0\n0 settle 0 pages 0 missing 1\n0 take 0 1 -\n0 fail 1 3 3\n",
+            Fault::Illegal { entry: 3 },
+        ),
+    ];
+    for (name, text, fault) in cases {
+        let outcome = run(alloc, AUDIT, text, SOUND)?;
+        assert_eq!(rt; outcome.answer, Err(fault), "{name}");
+        assert!(rt; outcome.written.is_empty(), "{name}");
+    }
+    Ok(())
+}
+
+#[test]
+fn each_read_of_an_audit_fails(rt: HostRuntime) -> Result<(), Fail> {
+    let text = "layout 1 1 1\n0 stop\n";
+    for failing_read in 1..=text.len() as u64 + 1 {
+        let calls = Calls {
+            most: 1,
+            failing_read,
+            failing_write: 0,
+        };
+        let outcome = run(rt.alloc(), AUDIT, text, calls)?;
+        assert_eq!(rt;
+            outcome.answer,
+            Err(Fault::ReadFault),
+            "read {failing_read}"
+        );
+        assert!(rt; outcome.written.is_empty(), "read {failing_read}");
+    }
+    Ok(())
+}
+
+// The last call is `finish`, before which the whole verdict was written.
+#[test]
+fn each_write_of_an_audit_fails(rt: HostRuntime) -> Result<(), Fail> {
+    let verdict = b"legal 6\n";
+    for failing_write in 1..=verdict.len() as u64 + 1 {
+        let calls = Calls {
+            most: 1,
+            failing_read: 0,
+            failing_write,
+        };
+        let outcome = run(rt.alloc(), AUDIT, LOADED, calls)?;
+        assert_eq!(rt;
+            outcome.answer,
+            Err(Fault::WriteFault),
+            "write {failing_write}"
+        );
+        assert_eq!(rt; outcome.written.len() as u64, failing_write - 1);
+        assert!(rt;
+            verdict.starts_with(&outcome.written),
+            "write {failing_write}"
+        );
+    }
+    Ok(())
+}
+
+// To be run with each allocation refused in turn: a refusal comes as `Memory`, with nothing written.
+#[test]
+fn audits_or_finds_no_memory(rt: HostRuntime) -> Result<(), Fail> {
+    if let Ok(outcome) = run(rt.alloc(), AUDIT, LOADED, SOUND) {
+        match outcome.answer {
+            Ok(done) => {
+                assert_eq!(rt; done, Done::Audited { entries: 6 });
+                assert_eq!(rt; outcome.written.as_slice(), b"legal 6\n".as_slice());
+            }
+            Err(fault) => {
+                assert_eq!(rt; fault, Fault::Memory);
+                assert!(rt; outcome.written.is_empty());
+            }
+        }
+    }
+    Ok(())
+}
