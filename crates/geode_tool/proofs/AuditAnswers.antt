@@ -16,7 +16,7 @@ use Rattle.geode_tool.specs.declared.texts.TextFault.TheVariants as text
 use Rattle.geode_tool.specs.declared.faults.Done.{Done}
 use Rattle.geode_tool.specs.declared.faults.Done.TheVariants.{Audited}
 use Rattle.geode_tool.specs.declared.faults.Fault.{Fault}
-use Rattle.geode_tool.specs.declared.faults.Fault.TheVariants.{Usage, ReadFault, TooLong, LaterForm, BadJournal, Illegal, WriteFault, Memory}
+use Rattle.geode_tool.specs.declared.faults.Fault.TheVariants.{Usage, ReadFault, TooLong, BadObj, TooMany, Empty, BadJournal, Illegal, WriteFault, Memory}
 use Rattle.geode_tool.specs.Audit.{audit_answer, judged, verdict_of, IsAudited, AuditRefused, JudgeRefused}
 use Rattle.geode_tool.specs.Commands.{AnswersOrFails}
 use Rattle.geode_tool.specs.Faults.{fault_of_journal, fault_of_replay, fault_of_text}
@@ -94,7 +94,9 @@ judge_refused (Ok count) input text faults new_faults is refused = tt
 judge_refused (Err (Usage kind)) input text faults new_faults is refused = absurd refused
 judge_refused (Err ReadFault) input text faults new_faults is refused = absurd refused
 judge_refused (Err TooLong) input text faults new_faults is refused = absurd refused
-judge_refused (Err LaterForm) input text faults new_faults is refused = absurd refused
+judge_refused (Err (BadObj line why)) input text faults new_faults is refused = absurd refused
+judge_refused (Err TooMany) input text faults new_faults is refused = absurd refused
+judge_refused (Err Empty) input text faults new_faults is refused = absurd refused
 judge_refused (Err (BadJournal line)) input text faults new_faults is refused = told input text (BadJournal line) is refused
 judge_refused (Err (Illegal entry)) input text faults new_faults is refused = told input text (Illegal entry) is refused
 judge_refused (Err WriteFault) input text faults new_faults is refused = absurd refused
@@ -109,7 +111,9 @@ answered-fault None faults new_faults fault refused = tt
 answered-fault (Some bytes) faults new_faults (Usage kind) refused = absurd refused
 answered-fault (Some bytes) faults new_faults ReadFault refused = inr refl
 answered-fault (Some bytes) faults new_faults TooLong refused = inl (sym refused)
-answered-fault (Some bytes) faults new_faults LaterForm refused = absurd refused
+answered-fault (Some bytes) faults new_faults (BadObj line why) refused = absurd refused
+answered-fault (Some bytes) faults new_faults TooMany refused = absurd refused
+answered-fault (Some bytes) faults new_faults Empty refused = absurd refused
 answered-fault (Some bytes) faults new_faults (BadJournal line) refused = inl (sym refused)
 answered-fault (Some bytes) faults new_faults (Illegal entry) refused = inl (sym refused)
 answered-fault (Some bytes) faults new_faults WriteFault refused = inr refl

@@ -9,7 +9,7 @@ use Rattle.geode_tool.specs.Texts.{IsText}
 use Rattle.geode_tool.specs.declared.faults.Done.{Done}
 use Rattle.geode_tool.specs.declared.faults.Done.TheVariants.{Audited}
 use Rattle.geode_tool.specs.declared.faults.Fault.{Fault}
-use Rattle.geode_tool.specs.declared.faults.Fault.TheVariants.{Usage, ReadFault, TooLong, LaterForm, BadJournal, Illegal, WriteFault, Memory}
+use Rattle.geode_tool.specs.declared.faults.Fault.TheVariants.{Usage, ReadFault, TooLong, BadObj, TooMany, Empty, BadJournal, Illegal, WriteFault, Memory}
 
 -- the count of the entries where none is refused, and else the place of the first that is
 abbrev pub verdict_of : Option ℕ → ℕ → Result Done Fault
@@ -47,7 +47,9 @@ abbrev pub JudgeRefused : List ℕ → Fault → Type 0
 JudgeRefused text (Usage kind) = ⊥
 JudgeRefused text ReadFault = ⊥
 JudgeRefused text TooLong = ⊥
-JudgeRefused text LaterForm = ⊥
+JudgeRefused text (BadObj line why) = ⊥
+JudgeRefused text TooMany = ⊥
+JudgeRefused text Empty = ⊥
 JudgeRefused text (BadJournal line) = audit_answer text ≡ Err (BadJournal line)
 JudgeRefused text (Illegal entry) = audit_answer text ≡ Err (Illegal entry)
 JudgeRefused text WriteFault = ⊥
@@ -59,7 +61,9 @@ abbrev pub AuditRefused : Option (List ℕ) → ℕ → ℕ → Fault → Type 0
 AuditRefused input faults new_faults (Usage kind) = ⊥
 AuditRefused input faults new_faults ReadFault = Rose faults new_faults
 AuditRefused input faults new_faults TooLong = IfSome input (λ text. audit_answer text ≡ Err TooLong)
-AuditRefused input faults new_faults LaterForm = ⊥
+AuditRefused input faults new_faults (BadObj line why) = ⊥
+AuditRefused input faults new_faults TooMany = ⊥
+AuditRefused input faults new_faults Empty = ⊥
 AuditRefused input faults new_faults (BadJournal line) = IfSome input (λ text. audit_answer text ≡ Err (BadJournal line))
 AuditRefused input faults new_faults (Illegal entry) = IfSome input (λ text. audit_answer text ≡ Err (Illegal entry))
 AuditRefused input faults new_faults WriteFault = ⊥

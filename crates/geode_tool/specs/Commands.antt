@@ -6,7 +6,7 @@ use Rattle.geode_tool.specs.declared.commands.Command.TheVariants.{Draw, Audit}
 use Rattle.geode_tool.specs.declared.faults.Done.{Done}
 use Rattle.geode_tool.specs.declared.faults.Done.TheVariants.{Drawn, Audited}
 use Rattle.geode_tool.specs.declared.faults.Fault.{Fault}
-use Rattle.geode_tool.specs.declared.faults.Fault.TheVariants.{Usage, ReadFault, TooLong, LaterForm, BadJournal, Illegal, WriteFault, Memory}
+use Rattle.geode_tool.specs.declared.faults.Fault.TheVariants.{Usage, ReadFault, TooLong, BadObj, TooMany, Empty, BadJournal, Illegal, WriteFault, Memory}
 use Rattle.geode_tool.specs.Audit.{audit_answer, IsVerdict}
 use Rattle.geode_tool.specs.Draw.{draw_answer, IsDrawn}
 use Rattle.geode_tool.specs.Words.{command_words}
@@ -26,7 +26,9 @@ has_failed (Ok done) = false
 has_failed (Err (Usage kind)) = false
 has_failed (Err ReadFault) = true
 has_failed (Err TooLong) = false
-has_failed (Err LaterForm) = false
+has_failed (Err (BadObj line why)) = false
+has_failed (Err TooMany) = false
+has_failed (Err Empty) = false
 has_failed (Err (BadJournal line)) = false
 has_failed (Err (Illegal entry)) = false
 has_failed (Err WriteFault) = true
@@ -47,14 +49,17 @@ is_own Audit (Audited entries) = true
 abbrev pub may_refuse : Command → Fault → Bool
 may_refuse command (Usage kind) = false
 may_refuse command ReadFault = true
-may_refuse Audit TooLong = true
-may_refuse (Draw drawing) TooLong = false
-may_refuse Audit LaterForm = false
-may_refuse (Draw drawing) LaterForm = true
-may_refuse Audit (BadJournal line) = true
+may_refuse command TooLong = true
+may_refuse (Draw drawing) (BadObj line why) = true
+may_refuse Audit (BadObj line why) = false
+may_refuse (Draw drawing) TooMany = true
+may_refuse Audit TooMany = false
+may_refuse (Draw drawing) Empty = true
+may_refuse Audit Empty = false
 may_refuse (Draw drawing) (BadJournal line) = false
-may_refuse Audit (Illegal entry) = true
+may_refuse Audit (BadJournal line) = true
 may_refuse (Draw drawing) (Illegal entry) = false
+may_refuse Audit (Illegal entry) = true
 may_refuse command WriteFault = true
 may_refuse command Memory = true
 

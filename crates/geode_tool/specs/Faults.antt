@@ -8,12 +8,15 @@ use Rattle.residency.specs.declared.pools.ReplayFault.TheVariants as replay
 use Rattle.geode_tool.specs.declared.texts.TextFault.{TextFault}
 use Rattle.geode_tool.specs.declared.texts.TextFault.TheVariants as text
 use Rattle.geode_tool.specs.declared.faults.Fault.{Fault}
-use Rattle.geode_tool.specs.declared.faults.Fault.TheVariants.{ReadFault, TooLong, LaterForm, BadJournal, Illegal, Memory}
+use Rattle.geode_tool.specs.declared.faults.Fault.TheVariants.{ReadFault, TooLong, BadObj, TooMany, Empty, BadJournal, Illegal, Memory}
 
 -- of the reading of a mesh
 abbrev pub fault_of_obj : ObjFault → Fault
+fault_of_obj (obj.Line line why) = BadObj line why
+fault_of_obj obj.TooMany = TooMany
+fault_of_obj obj.TooLong = TooLong
+fault_of_obj obj.Empty = Empty
 fault_of_obj obj.Read = ReadFault
-fault_of_obj obj.LaterForm = LaterForm
 fault_of_obj obj.Memory = Memory
 
 -- of the reading of a whole text

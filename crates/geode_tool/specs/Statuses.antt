@@ -1,7 +1,7 @@
 -- The exit status of each fault.
 use Rattle.std.specs.Prelude.{ℕ}
 use Rattle.geode_tool.specs.declared.faults.Fault.{Fault}
-use Rattle.geode_tool.specs.declared.faults.Fault.TheVariants.{Usage, ReadFault, TooLong, LaterForm, BadJournal, Illegal, WriteFault, Memory}
+use Rattle.geode_tool.specs.declared.faults.Fault.TheVariants.{Usage, ReadFault, TooLong, BadObj, TooMany, Empty, BadJournal, Illegal, WriteFault, Memory}
 
 -- no fault has the status of success, 0
 abbrev pub status_of : Fault → ℕ
@@ -9,7 +9,9 @@ status_of Memory = 2
 status_of (Usage kind) = 3
 status_of ReadFault = 4
 status_of WriteFault = 5
+status_of (BadObj line why) = 6
+status_of Empty = 7
+status_of TooMany = 8
 status_of TooLong = 9
 status_of (BadJournal line) = 11
 status_of (Illegal entry) = 17
-status_of LaterForm = 18

@@ -3,7 +3,7 @@ ghost use Rattle.geode_tool.specs.Statuses.{status_of};
 
 use crate::texts::TextFault;
 use geom_core::Memory;
-use obj_source::ObjFault;
+use obj_source::{ObjFault, ObjWhy};
 use residency::{JournalFault, ReplayFault};
 use thiserror::Error;
 
@@ -36,12 +36,24 @@ pub enum Fault {
     /// The input failed before its end; nothing was written.
     #[error("input could not be read")]
     ReadFault,
-    /// The input has more bytes than the command reads: 2^26 for `audit`; nothing was written.
+    /// The input has more bytes than the command reads: 2^28 for `draw`, where no line that ends among
+    /// these has a fault, and 2^26 for `audit`; nothing was written.
     #[error("input too long")]
     TooLong,
-    /// The input is no text of the plain form that can be read so far; nothing was written.
-    #[error("form not built yet")]
-    LaterForm,
+    /// A line of the mesh's text has a fault; nothing was written.
+    #[error("line {line}: {why}")]
+    BadObj {
+        /// The first such line, from 1, counting each line.
+        line: u32,
+        /// What is wrong with it.
+        why: ObjWhy,
+    },
+    /// The text of the mesh has more than 2^20 triangles; nothing was written.
+    #[error("more than 1048576 triangles")]
+    TooMany,
+    /// The text of the mesh has no triangle with three different corners; nothing was written.
+    #[error("no triangle")]
+    Empty,
     /// The input is no text of a journal; nothing was written.
     #[error("journal line {line}")]
     BadJournal {
@@ -80,8 +92,11 @@ impl From<ObjFault> for Fault {
 
     fn from(part: ObjFault) -> Fault {
         match part {
+            ObjFault::Line { line, why } => Fault::BadObj { line, why },
+            ObjFault::TooMany => Fault::TooMany,
+            ObjFault::TooLong => Fault::TooLong,
+            ObjFault::Empty => Fault::Empty,
             ObjFault::Read => Fault::ReadFault,
-            ObjFault::LaterForm => Fault::LaterForm,
             ObjFault::Memory => Fault::Memory,
         }
     }
@@ -137,10 +152,12 @@ impl Fault {
             Fault::Usage(_) => 3,
             Fault::ReadFault => 4,
             Fault::WriteFault => 5,
+            Fault::BadObj { .. } => 6,
+            Fault::Empty => 7,
+            Fault::TooMany => 8,
             Fault::TooLong => 9,
             Fault::BadJournal { .. } => 11,
             Fault::Illegal { .. } => 17,
-            Fault::LaterForm => 18,
         }
     }
 }

@@ -45,7 +45,7 @@ fn draw_all<T: PixelSink>(drawing: &Drawing, tris: &[Tri], to: &mut T)
 fn draw_tri<T: PixelSink>(drawing: &Drawing, number: u32, tri: Tri, to: &mut T)
     requires picture { IsPicture drawing.now.size }
     requires source { IsSourceTriangle tri }
-    requires few { number < 65536 }
+    requires few { number < 2 ^ 20 }
     requires room { drawing.now.size.width * drawing.now.size.height ≤ T.pixels to.old }
     ensures pixels { T.pixels to.new ≡ T.pixels to.old }
     ensures shown { (rest : T.Rest) (before : List (ℕ × ℕ)) → T.shows to.old rest before

@@ -2,6 +2,7 @@ ghost use Rattle.std.specs.Prelude.{◌≤◌};
 
 use crate::{Done, Fault, UsageKind, geode};
 use geom_core::Memory;
+use obj_source::ObjWhy;
 use span_io::{MemorySink, MemorySource};
 use std::alloc::Global;
 use std::test::Fail;
@@ -18,7 +19,7 @@ const SQUARE: &str = "v -1 0 1\nv 1 0 1\nv 1 0 -1\nv -1 0 -1\nf 1 2 3\nf 1 3 4\n
 
 const SLANTED: &str = "v -1 0 1\nv 1 0 1\nv 1 1 -1\nf 1 2 3\n";
 
-const REPEATED: &str = "v -1 0 1\nv 1 0 1\nv 1 0 -1\nf 1 2 2\n";
+const CORNERS: &str = "v -1 0 1\nv 1 0 1\nv 1 0 -1\n";
 
 const EXPORT: &str = "# Blender\nmtllib plane.mtl\no Plane\nv -1.000000 0.000000 1.000000\n\
     v 1.000000 0.000000 1.000000\nv -1.000000 0.000000 -1.000000\n\
@@ -26,7 +27,8 @@ const EXPORT: &str = "# Blender\nmtllib plane.mtl\no Plane\nv -1.000000 0.000000
     vt 1.000000 0.000000\nvt 0.000000 1.000000\nvt 1.000000 1.000000\ns 0\n\
     usemtl Material\nf 1/1/1 2/2/1 4/3/1 3/4/1\n";
 
-// The words of pixels: dark, of the first and of the second triangle, and the two of the slanted one.
+// The words of pixels: dark, of the first and of the second triangle, the two of the slanted one, and of
+// triangle 1,048,575.
 const O: &str = "0000000000000000";
 
 const A: &str = "7ffffffc00000000";
@@ -36,6 +38,8 @@ const B: &str = "7ffffffc00000001";
 const P: &str = "9af286b800000000";
 
 const Q: &str = "88fb823800000000";
+
+const Z: &str = "7ffffffc000fffff";
 
 /// The words of a picture of 4 by 4 pixels, row by row.
 type Pixels = [&'static str; 16];
@@ -47,6 +51,8 @@ const ONE: Pixels = [O, O, O, O, O, O, A, O, O, A, A, O, O, O, O, O];
 const TWO: Pixels = [O, O, O, O, O, B, A, O, O, A, A, O, O, O, O, O];
 
 const DEEP: Pixels = [O, O, O, O, O, O, P, O, O, Q, Q, O, O, O, O, O];
+
+const LAST: Pixels = [O, O, O, O, O, O, Z, O, O, Z, Z, O, O, O, O, O];
 
 /// The bytes of the text of such a picture.
 const TEXT_LEN: u64 = 272;
@@ -102,47 +108,163 @@ pub(crate) fn run(
     })
 }
 
+/// One byte a call.
+const SLOW: Calls = Calls { most: 1, ..SOUND };
+
+/// The words that ask for a picture of 4 by 4 pixels.
+const DRAW: &[&str] = &["draw", "4", "4", ABOVE];
+
+/// The same text with CR and LF at the end of each line.
+fn with_returns(alloc: Global, text: &str) -> Result<String, Memory> {
+    let mut longer = String::new(alloc);
+    for line in text.lines() {
+        longer.push_str(line)?;
+        longer.push_str("\r\n")?;
+    }
+    Ok(longer)
+}
+
+/// The corners of a triangle, and behind them a line.
+fn with_line(alloc: Global, line: &str) -> Result<String, Memory> {
+    Ok(format!(in alloc; "{CORNERS}{line}\n")?)
+}
+
+/// One polygon with so many pairs of corners behind its first, so that none of its triangles is dropped.
+fn with_pairs(alloc: Global, pairs: u32) -> Result<String, Memory> {
+    let mut text = format!(in alloc; "{CORNERS}f 1")?;
+    for _ in 0..pairs {
+        text.push_str(" 2 3")?;
+    }
+    Ok(text)
+}
+
 #[test]
 fn draws(rt: HostRuntime) -> Result<(), Fail> {
     let alloc = rt.alloc();
+    let returns = with_returns(alloc, EXPORT)?;
+    let backwards = with_line(alloc, "f 1 2 -1")?;
+    let slashed = with_line(alloc, "f\t1//7  2/ 3/x # a face")?;
+    let unended = "v -1 0 1\nv 1 0 1\nv 1 0 -1\nf 1 2 3";
     let cases = [
         ("one triangle", TRIANGLE, ABOVE, ONE),
         ("two triangles that share an edge", SQUARE, ABOVE, TWO),
         ("a slanted triangle", SLANTED, ABOVE, DEEP),
         ("too near to be seen", TRIANGLE, FAR, DARK),
+        ("an exported plane", EXPORT, ABOVE, TWO),
+        ("the same with CR and LF", returns.as_str(), ABOVE, TWO),
+        ("a corner named backwards", backwards.as_str(), ABOVE, ONE),
+        ("slashes, a tab and a comment", slashed.as_str(), ABOVE, ONE),
+        ("no last line feed", unended, ABOVE, ONE),
     ];
     for (name, text, camera, pixels) in cases {
-        let outcome = run(alloc, &["draw", "4", "4", camera], text, SOUND)?;
-        assert_eq!(rt; outcome.answer, Ok(Done::Drawn), "{name}");
-        assert_eq!(rt; outcome.written, text_of(alloc, &pixels)?, "{name}");
+        for calls in [SOUND, SLOW] {
+            let outcome = run(alloc, &["draw", "4", "4", camera], text, calls)?;
+            assert_eq!(rt; outcome.answer, Ok(Done::Drawn), "{name}");
+            assert_eq!(rt; outcome.written, text_of(alloc, &pixels)?, "{name}");
+        }
+    }
+    Ok(())
+}
+
+/// A fault of a line.
+fn line(line: u32, why: ObjWhy) -> Fault {
+    Fault::BadObj { line, why }
+}
+
+#[test]
+fn the_first_fault_of_a_mesh_is_named(rt: HostRuntime) -> Result<(), Fail> {
+    let alloc = rt.alloc();
+    let vertex_0 = with_line(alloc, "f 1 2 0")?;
+    let vertex_4 = with_line(alloc, "f 1 2 4")?;
+    let two_corners = with_line(alloc, "f 1 2")?;
+    let no_number = with_line(alloc, "f 1 2 x")?;
+    let with_plus = with_line(alloc, "f 1 +2 3")?;
+    let repeated = with_line(alloc, "f 1 2 2")?;
+    let later = with_line(alloc, "f 1 2 3\nv 0 0 1025 # far\nf 1 2 x")?;
+    let cases = [
+        ("no bytes", "", Fault::Empty),
+        ("vertices alone", CORNERS, Fault::Empty),
+        (
+            "points that are equal once rounded",
+            "v 0 0 0\nv 0.0001 0 0\nv 1 0 0\nf 1 2 3\n",
+            Fault::Empty,
+        ),
+        ("a repeated corner", repeated.as_str(), Fault::Empty),
+        (
+            "vertex 0",
+            vertex_0.as_str(),
+            line(4, ObjWhy::NoSuchVertex(3)),
+        ),
+        (
+            "vertex 4 of 3",
+            vertex_4.as_str(),
+            line(4, ObjWhy::NoSuchVertex(3)),
+        ),
+        (
+            "two corners",
+            two_corners.as_str(),
+            line(4, ObjWhy::ShortFace),
+        ),
+        (
+            "no number",
+            no_number.as_str(),
+            line(4, ObjWhy::BadCorner(3)),
+        ),
+        ("a plus", with_plus.as_str(), line(4, ObjWhy::BadCorner(2))),
+        ("no third number", "v 1 2", line(1, ObjWhy::BadNumber(3))),
+        ("a word", "\nv 1 nan 2\n", line(2, ObjWhy::BadNumber(2))),
+        ("too far", later.as_str(), line(5, ObjWhy::OutOfRange(3))),
+        (
+            "a fault before Empty",
+            "v 0 0 0\nf 1 1\n",
+            line(2, ObjWhy::ShortFace),
+        ),
+    ];
+    for (name, text, fault) in cases {
+        for calls in [SOUND, SLOW] {
+            let outcome = run(alloc, DRAW, text, calls)?;
+            assert_eq!(rt; outcome.answer, Err(fault), "{name}");
+            assert!(rt; outcome.written.is_empty(), "{name}");
+        }
     }
     Ok(())
 }
 
 #[test]
-fn refuses(rt: HostRuntime) -> Result<(), Fail> {
+fn the_most_triangles_are_drawn(rt: HostRuntime) -> Result<(), Fail> {
     let alloc = rt.alloc();
-    let whole: &[&str] = &["draw", "4", "4", ABOVE];
-    let cases: [(&str, &[&str], &str, Fault); 6] = [
-        ("no bytes", whole, "", Fault::LaterForm),
-        ("an exported plane", whole, EXPORT, Fault::LaterForm),
-        ("a repeated corner", whole, REPEATED, Fault::LaterForm),
-        (
-            "no camera",
-            &["draw", "4", "4"],
-            TRIANGLE,
-            Fault::Usage(UsageKind::Line),
-        ),
-        ("no words", &[], TRIANGLE, Fault::Usage(UsageKind::Line)),
-        (
-            "a word behind `audit`",
-            &["audit", "-"],
-            "layout 1 1 1",
-            Fault::Usage(UsageKind::Line),
-        ),
+    let mut text = with_pairs(alloc, 524_288)?;
+    text.push_str(" 2")?;
+    let outcome = run(alloc, DRAW, &text, SOUND)?;
+    assert_eq!(rt; outcome.answer, Ok(Done::Drawn));
+    assert_eq!(rt; outcome.written, text_of(alloc, &LAST)?);
+    Ok(())
+}
+
+#[test]
+fn one_triangle_more_is_refused(rt: HostRuntime) -> Result<(), Fail> {
+    let alloc = rt.alloc();
+    let mut text = with_pairs(alloc, 524_289)?;
+    let outcome = run(alloc, DRAW, &text, SOUND)?;
+    assert_eq!(rt; outcome.answer, Err(Fault::TooMany));
+    assert!(rt; outcome.written.is_empty());
+    text.push_str(" 4")?;
+    let outcome = run(alloc, DRAW, &text, SOUND)?;
+    let fault = line(4, ObjWhy::NoSuchVertex(1_048_580));
+    assert_eq!(rt; outcome.answer, Err(fault));
+    Ok(())
+}
+
+#[test]
+fn wrong_words_are_refused(rt: HostRuntime) -> Result<(), Fail> {
+    let cases: [(&str, &[&str], &str); 3] = [
+        ("no camera", &["draw", "4", "4"], TRIANGLE),
+        ("no words", &[], TRIANGLE),
+        ("a word behind `audit`", &["audit", "-"], "layout 1 1 1"),
     ];
-    for (name, words, text, fault) in cases {
-        let outcome = run(alloc, words, text, SOUND)?;
+    for (name, words, text) in cases {
+        let outcome = run(rt.alloc(), words, text, SOUND)?;
+        let fault = Fault::Usage(UsageKind::Line);
         assert_eq!(rt; outcome.answer, Err(fault), "{name}");
         assert!(rt; outcome.written.is_empty(), "{name}");
     }
@@ -155,7 +277,17 @@ fn shows_faults(rt: HostRuntime) -> Result<(), Fail> {
         (Fault::Usage(UsageKind::Line), 3, "usage: line"),
         (Fault::ReadFault, 4, "input could not be read"),
         (Fault::TooLong, 9, "input too long"),
-        (Fault::LaterForm, 18, "form not built yet"),
+        (
+            line(4, ObjWhy::NoSuchVertex(3)),
+            6,
+            "line 4: no such vertex 3",
+        ),
+        (line(1, ObjWhy::BadNumber(3)), 6, "line 1: bad number 3"),
+        (line(7, ObjWhy::OutOfRange(1)), 6, "line 7: out of range 1"),
+        (line(4, ObjWhy::BadCorner(2)), 6, "line 4: bad corner 2"),
+        (line(9, ObjWhy::ShortFace), 6, "line 9: short face"),
+        (Fault::TooMany, 8, "more than 1048576 triangles"),
+        (Fault::Empty, 7, "no triangle"),
         (Fault::BadJournal { line: 7 }, 11, "journal line 7"),
         (Fault::Illegal { entry: 0 }, 17, "entry 0 not allowed"),
         (Fault::WriteFault, 5, "output could not be written"),
@@ -177,7 +309,7 @@ fn a_third_write_of_ten_bytes_fails(rt: HostRuntime) -> Result<(), Fail> {
         failing_write: 3,
         ..SOUND
     };
-    let outcome = run(alloc, &["draw", "4", "4", ABOVE], TRIANGLE, calls)?;
+    let outcome = run(alloc, DRAW, TRIANGLE, calls)?;
     assert_eq!(rt; outcome.answer, Err(Fault::WriteFault));
     assert!(rt; outcome.written.len() <= 20);
     assert!(rt; text_of(alloc, &ONE)?.starts_with(&outcome.written));
@@ -190,17 +322,31 @@ fn each_read_fails(rt: HostRuntime) -> Result<(), Fail> {
     let reads = TRIANGLE.len() as u64 + 1;
     for failing_read in 1..=reads {
         let calls = Calls {
-            most: 1,
             failing_read,
-            failing_write: 0,
+            ..SLOW
         };
-        let outcome = run(alloc, &["draw", "4", "4", ABOVE], TRIANGLE, calls)?;
+        let outcome = run(alloc, DRAW, TRIANGLE, calls)?;
         assert_eq!(rt;
             outcome.answer,
             Err(Fault::ReadFault),
             "read {failing_read}"
         );
         assert!(rt; outcome.written.is_empty(), "read {failing_read}");
+    }
+    Ok(())
+}
+
+// Line 1 ends with the sixth byte, and no read is made once it was judged.
+#[test]
+fn no_read_follows_a_fault(rt: HostRuntime) -> Result<(), Fail> {
+    let cases = [(6, Fault::ReadFault), (7, line(1, ObjWhy::BadNumber(3)))];
+    for (failing_read, fault) in cases {
+        let calls = Calls {
+            failing_read,
+            ..SLOW
+        };
+        let outcome = run(rt.alloc(), DRAW, "v 1 2\nv 0 0 0\n", calls)?;
+        assert_eq!(rt; outcome.answer, Err(fault), "read {failing_read}");
     }
     Ok(())
 }
@@ -213,11 +359,10 @@ fn each_write_fails(rt: HostRuntime) -> Result<(), Fail> {
     assert_eq!(rt; text.len() as u64, TEXT_LEN);
     for failing_write in 1..=TEXT_LEN + 1 {
         let calls = Calls {
-            most: 1,
-            failing_read: 0,
             failing_write,
+            ..SLOW
         };
-        let outcome = run(alloc, &["draw", "4", "4", ABOVE], TRIANGLE, calls)?;
+        let outcome = run(alloc, DRAW, TRIANGLE, calls)?;
         assert_eq!(rt;
             outcome.answer,
             Err(Fault::WriteFault),
@@ -233,7 +378,7 @@ fn each_write_fails(rt: HostRuntime) -> Result<(), Fail> {
 #[test]
 fn draws_or_finds_no_memory(rt: HostRuntime) -> Result<(), Fail> {
     let alloc = rt.alloc();
-    if let Ok(outcome) = run(alloc, &["draw", "4", "4", ABOVE], TRIANGLE, SOUND) {
+    if let Ok(outcome) = run(alloc, DRAW, EXPORT, SOUND) {
         match outcome.answer {
             Ok(done) => {
                 assert_eq!(rt; done, Done::Drawn);

@@ -18,7 +18,7 @@ use std::alloc::Global;
 
 /// Does what a command line asks for: reads the input, and writes the result and nothing else.
 ///
-/// `words` are the command line without the program's name. `draw WIDTH HEIGHT CAMERA` reads a plain OBJ
+/// `words` are the command line without the program's name. `draw WIDTH HEIGHT CAMERA` reads an OBJ
 /// text and writes the picture of its triangles as rows of hexadecimal words. `audit` reads the text of
 /// a page pool's journal and writes `legal N`, N the count of its entries, where each was allowed after
 /// those before it. A refusal is the first that holds, in the order of `Fault`.

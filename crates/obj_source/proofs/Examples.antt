@@ -1,9 +1,14 @@
--- Worked examples of the definitions, computed by the checker.
-use Rattle.std.specs.Prelude.{◌≡◌, ℕ, ◌∷◌, ◌++◌, [], List, Option, Some, None, ℤ, pos, negsuc, codes, refl}
+-- Worked examples of lines, words and meshes, computed by the checker.
+use Rattle.std.specs.Prelude.{◌≡◌, ℕ, ◌∷◌, ◌++◌, [], List, ℤ, pos, negsuc, Result, Ok, Err, codes, refl}
 use Rattle.geom_core.specs.declared.points.Pt.{Pt}
 use Rattle.geom_core.specs.declared.triangles.Tri.{Tri}
 use Rattle.geom_core.specs.EdgeSum.{same_point}
-use Rattle.obj_source.specs.PlainText.{number_of, signed_of, coordinate_of, corner_of, is_letter, line_of, plain_triangles}
+use Rattle.obj_source.specs.declared.faults.ObjFault.{ObjFault}
+use Rattle.obj_source.specs.declared.faults.ObjFault.TheVariants.{Line, Empty}
+use Rattle.obj_source.specs.declared.faults.ObjWhy.TheVariants.{BadNumber, OutOfRange, BadCorner, NoSuchVertex, ShortFace}
+use Rattle.obj_source.specs.Lines.{words_of, without_return}
+use Rattle.obj_source.specs.Numerals.{coordinate_of, numeral_of, exponent_of, scaled}
+use Rattle.obj_source.specs.Mesh.{mesh, with_line, vertex_of, face_of, corner_of, vertex_named}
 use Rattle.obj_source.specs.SourceTriangles.{has_distinct_corners}
 
 abbrev point : ℤ → ℤ → ℤ → Pt
@@ -12,151 +17,160 @@ point x y z = record { x = x; y = y; z = z }
 abbrev line : List ℕ → List ℕ
 line bytes = bytes ++ 10 ∷ []
 
--- the vertices (0, 0, 0), (1, 0, 0), (0, -2, 0), and (1, 0, 0) once more
-abbrev corners : List ℕ
-corners = line (codes "v 0 0 0") ++ line (codes "v 1 0 0") ++ line (codes "v 0 -2 0") ++ line (codes "v 1 -0 0000")
+-- the same, ended by CR and LF
+abbrev line_of_two : List ℕ → List ℕ
+line_of_two bytes = bytes ++ 13 ∷ 10 ∷ []
 
-abbrev first : Pt
-first = point (pos 0) (pos 0) (pos 0)
+abbrev tab : List ℕ
+tab = 9 ∷ []
 
-abbrev second : Pt
-second = point (pos 1024) (pos 0) (pos 0)
+abbrev return : List ℕ
+return = 13 ∷ []
 
-abbrev third : Pt
-third = point (pos 0) (negsuc 2047) (pos 0)
+-- the vertices (-1, 0, 1), (1, 0, 1) and (1, 0, -1)
+abbrev three : List ℕ
+three = line (codes "v -1 0 1") ++ line (codes "v 1 0 1") ++ line (codes "v 1 0 -1")
+
+abbrev a : Pt
+a = point (negsuc 1023) (pos 0) (pos 1024)
+
+abbrev b : Pt
+b = point (pos 1024) (pos 0) (pos 1024)
+
+abbrev c : Pt
+c = point (pos 1024) (pos 0) (negsuc 1023)
+
+abbrev d : Pt
+d = point (negsuc 1023) (pos 0) (negsuc 1023)
+
+abbrev tri : Pt → Pt → Pt → Tri
+tri p q r = record { a = p; b = q; c = r }
 
 -- these vertices, and one line more
-abbrev with_last : List ℕ → Option (List Tri)
-with_last bytes = plain_triangles (corners ++ line bytes)
+abbrev with_last : List ℕ → Result (List Tri) ObjFault
+with_last bytes = mesh 1024 (three ++ bytes)
 
-abbrev triangle : Tri
-triangle = record { a = first; b = second; c = third }
+pub mesh-empty : mesh 1024 [] ≡ Err Empty
+unfolding mesh with_line words_of without_return
+mesh-empty = refl
 
-abbrev turned : Tri
-turned = record { a = third; b = second; c = first }
+pub mesh-one : with_last (codes "f 1 2 3") ≡ Ok (tri a b c ∷ [])
+unfolding mesh with_line words_of without_return vertex_of face_of corner_of vertex_named coordinate_of numeral_of exponent_of scaled has_distinct_corners same_point
+mesh-one = refl
 
--- a plain text of one triangle
-pub plain_triangles-one : with_last (codes "f 1 2 3") ≡ Some (triangle ∷ [])
-unfolding plain_triangles line_of is_letter coordinate_of signed_of number_of corner_of has_distinct_corners same_point
-plain_triangles-one = refl
+pub mesh-backwards : with_last (codes "f 1 2 -1") ≡ Ok (tri a b c ∷ [])
+unfolding mesh with_line words_of without_return vertex_of face_of corner_of vertex_named coordinate_of numeral_of exponent_of scaled has_distinct_corners same_point
+mesh-backwards = refl
 
--- of two, in order
-pub plain_triangles-two : with_last (codes "f 1 2 3" ++ 10 ∷ codes "f 3 4 1") ≡ Some (triangle ∷ turned ∷ [])
-unfolding plain_triangles line_of is_letter coordinate_of signed_of number_of corner_of has_distinct_corners same_point
-plain_triangles-two = refl
+pub mesh-no_vertex_0 : with_last (line_of_two (codes "f 1 2 0")) ≡ Err (Line 4 (NoSuchVertex 3))
+unfolding mesh with_line words_of without_return vertex_of face_of corner_of vertex_named coordinate_of numeral_of exponent_of scaled has_distinct_corners same_point
+mesh-no_vertex_0 = refl
 
--- a face names vertices that were read before it
-pub plain_triangles-between : plain_triangles (corners ++ line (codes "f 00001 2 3") ++ line (codes "v 7 7 7")) ≡ Some (triangle ∷ [])
-unfolding plain_triangles line_of is_letter coordinate_of signed_of number_of corner_of has_distinct_corners same_point
-plain_triangles-between = refl
+pub mesh-short : with_last (codes "f 1 x # y z") ≡ Err (Line 4 ShortFace)
+unfolding mesh with_line words_of without_return vertex_of face_of corner_of vertex_named coordinate_of numeral_of exponent_of scaled has_distinct_corners same_point
+mesh-short = refl
 
--- no LF behind the last line
-pub plain_triangles-not_ended : plain_triangles (corners ++ codes "f 1 2 3") ≡ None
-unfolding plain_triangles line_of is_letter coordinate_of signed_of number_of corner_of has_distinct_corners same_point
-plain_triangles-not_ended = refl
+pub mesh-polygon : with_last (codes "f 1//7 2/ 3/1/1 1 2# 9") ≡ Ok (tri a b c ∷ [])
+unfolding mesh with_line words_of without_return vertex_of face_of corner_of vertex_named coordinate_of numeral_of exponent_of scaled has_distinct_corners same_point
+mesh-polygon = refl
 
--- no text, and no triangle
-pub plain_triangles-empty : plain_triangles [] ≡ None
-unfolding plain_triangles line_of is_letter coordinate_of signed_of number_of corner_of has_distinct_corners same_point
-plain_triangles-empty = refl
+-- CR and LF at the end of each line, and a CR alone at the end of the text
+pub mesh-two_ends : mesh 1024 (line_of_two (codes "v -1 0 1") ++ line_of_two (codes "v 1 0 1") ++ line_of_two (codes "v 1 0 -1") ++ codes "f 1 2 3" ++ return) ≡ Ok (tri a b c ∷ [])
+unfolding mesh with_line words_of without_return vertex_of face_of corner_of vertex_named coordinate_of numeral_of exponent_of scaled has_distinct_corners same_point
+mesh-two_ends = refl
 
-pub plain_triangles-no_face : plain_triangles corners ≡ None
-unfolding plain_triangles line_of is_letter coordinate_of signed_of number_of corner_of has_distinct_corners same_point
-plain_triangles-no_face = refl
+-- a CR that isn't the line's last byte belongs to its word
+pub mesh-return_inside : with_last (codes "f 1" ++ return ++ codes " 2 3") ≡ Err (Line 4 (BadCorner 1))
+unfolding mesh with_line words_of without_return vertex_of face_of corner_of vertex_named coordinate_of numeral_of exponent_of scaled has_distinct_corners same_point
+mesh-return_inside = refl
 
--- an index past the vertices, one of a later vertex, and 0
-pub plain_triangles-past : with_last (codes "f 1 2 5") ≡ None
-unfolding plain_triangles line_of is_letter coordinate_of signed_of number_of corner_of has_distinct_corners same_point
-plain_triangles-past = refl
+pub mesh-two_returns : with_last (line_of_two (codes "v 1 2 3" ++ return)) ≡ Err (Line 4 (BadNumber 3))
+unfolding mesh with_line words_of without_return vertex_of face_of corner_of vertex_named coordinate_of numeral_of exponent_of scaled has_distinct_corners same_point
+mesh-two_returns = refl
 
-pub plain_triangles-later : plain_triangles (line (codes "f 1 2 3") ++ corners) ≡ None
-unfolding plain_triangles line_of is_letter coordinate_of signed_of number_of corner_of has_distinct_corners same_point
-plain_triangles-later = refl
+pub mesh-return_and_comment : with_last (line_of_two (codes "v 1 2 3" ++ return ++ codes "# x")) ≡ Err (Line 4 (BadNumber 3))
+unfolding mesh with_line words_of without_return vertex_of face_of corner_of vertex_named coordinate_of numeral_of exponent_of scaled has_distinct_corners same_point
+mesh-return_and_comment = refl
 
-pub plain_triangles-zeroth : with_last (codes "f 0 1 2") ≡ None
-unfolding plain_triangles line_of is_letter coordinate_of signed_of number_of corner_of has_distinct_corners same_point
-plain_triangles-zeroth = refl
+-- tabs and spaces, before the first word too
+pub mesh-tabs : with_last (tab ++ codes " f" ++ tab ++ tab ++ codes "1 2" ++ tab ++ codes "3 " ++ tab) ≡ Ok (tri a b c ∷ [])
+unfolding mesh with_line words_of without_return vertex_of face_of corner_of vertex_named coordinate_of numeral_of exponent_of scaled has_distinct_corners same_point
+mesh-tabs = refl
 
--- six digits, and a sign
-pub plain_triangles-six_digits : with_last (codes "f 000001 2 3") ≡ None
-unfolding plain_triangles line_of is_letter coordinate_of signed_of number_of corner_of has_distinct_corners same_point
-plain_triangles-six_digits = refl
+-- a `#` directly behind a word
+pub mesh-comment : with_last (line (codes "v 1 2 3#4 x") ++ codes "f 1 2 -2#9") ≡ Ok (tri a b c ∷ [])
+unfolding mesh with_line words_of without_return vertex_of face_of corner_of vertex_named coordinate_of numeral_of exponent_of scaled has_distinct_corners same_point
+mesh-comment = refl
 
-pub plain_triangles-negative_corner : with_last (codes "f -1 2 3") ≡ None
-unfolding plain_triangles line_of is_letter coordinate_of signed_of number_of corner_of has_distinct_corners same_point
-plain_triangles-negative_corner = refl
+-- lines that are passed over, whatever their bytes, and lines without words
+pub mesh-passed_over : with_last (line (codes "vn 1 x") ++ line (codes "f1 2") ++ line (codes "F 9 9 9") ++ line [] ++ line (codes "# f 9") ++ line (0 ∷ 255 ∷ []) ++ codes "f 1 2 3") ≡ Ok (tri a b c ∷ [])
+unfolding mesh with_line words_of without_return vertex_of face_of corner_of vertex_named coordinate_of numeral_of exponent_of scaled has_distinct_corners same_point
+mesh-passed_over = refl
 
--- two corners that are one vertex, and two that are one point
-pub plain_triangles-same_vertex : with_last (codes "f 1 2 2") ≡ None
-unfolding plain_triangles line_of is_letter coordinate_of signed_of number_of corner_of has_distinct_corners same_point
-plain_triangles-same_vertex = refl
+-- words behind the third number say nothing, and a missing one is no number
+pub mesh-many_words : mesh 1024 (line (codes "v 1 0 1 x 9999999 #") ++ codes "v 1 2") ≡ Err (Line 2 (BadNumber 3))
+unfolding mesh with_line words_of without_return vertex_of face_of corner_of vertex_named coordinate_of numeral_of exponent_of scaled has_distinct_corners same_point
+mesh-many_words = refl
 
-pub plain_triangles-same_point_twice : with_last (codes "f 2 3 4") ≡ None
-unfolding plain_triangles line_of is_letter coordinate_of signed_of number_of corner_of has_distinct_corners same_point
-plain_triangles-same_point_twice = refl
+-- the first of a line's faults, from the left
+pub mesh-first_number : mesh 1024 (codes "v 1 1025 x") ≡ Err (Line 1 (OutOfRange 2))
+unfolding mesh with_line words_of without_return vertex_of face_of corner_of vertex_named coordinate_of numeral_of exponent_of scaled has_distinct_corners same_point
+mesh-first_number = refl
 
--- two spaces, a space at the end, a CR, an empty line, another letter, a word too few
-pub plain_triangles-two_spaces : with_last (codes "f 1  2 3") ≡ None
-unfolding plain_triangles line_of is_letter coordinate_of signed_of number_of corner_of has_distinct_corners same_point
-plain_triangles-two_spaces = refl
+pub mesh-first_corner : with_last (codes "f 1 4 x 0") ≡ Err (Line 4 (NoSuchVertex 2))
+unfolding mesh with_line words_of without_return vertex_of face_of corner_of vertex_named coordinate_of numeral_of exponent_of scaled has_distinct_corners same_point
+mesh-first_corner = refl
 
-pub plain_triangles-space_at_end : with_last (codes "f 1 2 3 ") ≡ None
-unfolding plain_triangles line_of is_letter coordinate_of signed_of number_of corner_of has_distinct_corners same_point
-plain_triangles-space_at_end = refl
+-- the first of the text's faults
+pub mesh-first_line : with_last (line (codes "f 1 2 x") ++ codes "v x") ≡ Err (Line 4 (BadCorner 3))
+unfolding mesh with_line words_of without_return vertex_of face_of corner_of vertex_named coordinate_of numeral_of exponent_of scaled has_distinct_corners same_point
+mesh-first_line = refl
 
-pub plain_triangles-carriage_return : with_last (codes "f 1 2 3" ++ 13 ∷ []) ≡ None
-unfolding plain_triangles line_of is_letter coordinate_of signed_of number_of corner_of has_distinct_corners same_point
-plain_triangles-carriage_return = refl
+-- a corner has no `+`, and 1 to 18 digits
+pub mesh-plus : with_last (codes "f 1 +2 3") ≡ Err (Line 4 (BadCorner 2))
+unfolding mesh with_line words_of without_return vertex_of face_of corner_of vertex_named coordinate_of numeral_of exponent_of scaled has_distinct_corners same_point
+mesh-plus = refl
 
-pub plain_triangles-empty_line : with_last (codes "f 1 2 3" ++ 10 ∷ []) ≡ None
-unfolding plain_triangles line_of is_letter coordinate_of signed_of number_of corner_of has_distinct_corners same_point
-plain_triangles-empty_line = refl
+pub mesh-no_digit : with_last (codes "f 1 2 -/3") ≡ Err (Line 4 (BadCorner 3))
+unfolding mesh with_line words_of without_return vertex_of face_of corner_of vertex_named coordinate_of numeral_of exponent_of scaled has_distinct_corners same_point
+mesh-no_digit = refl
 
-pub plain_triangles-other_letter : with_last (codes "f 1 2 3" ++ 10 ∷ codes "g 1 2 3") ≡ None
-unfolding plain_triangles line_of is_letter coordinate_of signed_of number_of corner_of has_distinct_corners same_point
-plain_triangles-other_letter = refl
+pub mesh-18_digits : with_last (codes "f 000000000000000001 2 3") ≡ Ok (tri a b c ∷ [])
+unfolding mesh with_line words_of without_return vertex_of face_of corner_of vertex_named coordinate_of numeral_of exponent_of scaled has_distinct_corners same_point
+mesh-18_digits = refl
 
-pub plain_triangles-two_corners : with_last (codes "f 1 2") ≡ None
-unfolding plain_triangles line_of is_letter coordinate_of signed_of number_of corner_of has_distinct_corners same_point
-plain_triangles-two_corners = refl
+pub mesh-19_digits : with_last (codes "f 0000000000000000001 2 3") ≡ Err (Line 4 (BadCorner 1))
+unfolding mesh with_line words_of without_return vertex_of face_of corner_of vertex_named coordinate_of numeral_of exponent_of scaled has_distinct_corners same_point
+mesh-19_digits = refl
 
--- numbers
-pub coordinate_of-minus_zero : coordinate_of (codes "-0") ≡ Some (pos 0)
-unfolding coordinate_of signed_of number_of
-coordinate_of-minus_zero = refl
+-- of three vertices -3 is the first, and there is no -4 and no -0
+pub mesh-backwards_first : with_last (codes "f -3 -2 -1") ≡ Ok (tri a b c ∷ [])
+unfolding mesh with_line words_of without_return vertex_of face_of corner_of vertex_named coordinate_of numeral_of exponent_of scaled has_distinct_corners same_point
+mesh-backwards_first = refl
 
-pub coordinate_of-leading_zeros : coordinate_of (codes "0007") ≡ Some (pos 7168)
-unfolding coordinate_of signed_of number_of
-coordinate_of-leading_zeros = refl
+pub mesh-backwards_past : with_last (codes "f 1 2 -4") ≡ Err (Line 4 (NoSuchVertex 3))
+unfolding mesh with_line words_of without_return vertex_of face_of corner_of vertex_named coordinate_of numeral_of exponent_of scaled has_distinct_corners same_point
+mesh-backwards_past = refl
 
-pub coordinate_of-greatest : coordinate_of (codes "1024") ≡ Some (pos 1048576)
-unfolding coordinate_of signed_of number_of
-coordinate_of-greatest = refl
+pub mesh-minus_0 : with_last (codes "f -0 2 3") ≡ Err (Line 4 (NoSuchVertex 1))
+unfolding mesh with_line words_of without_return vertex_of face_of corner_of vertex_named coordinate_of numeral_of exponent_of scaled has_distinct_corners same_point
+mesh-minus_0 = refl
 
-pub coordinate_of-least : coordinate_of (codes "-1024") ≡ Some (negsuc 1048575)
-unfolding coordinate_of signed_of number_of
-coordinate_of-least = refl
+-- a corner names a vertex that stands above
+pub mesh-face_first : mesh 1024 (line (codes "f 1 2 3") ++ three) ≡ Err (Line 1 (NoSuchVertex 1))
+unfolding mesh with_line words_of without_return vertex_of face_of corner_of vertex_named coordinate_of numeral_of exponent_of scaled has_distinct_corners same_point
+mesh-face_first = refl
 
-pub coordinate_of-too_great : coordinate_of (codes "1025") ≡ None
-unfolding coordinate_of signed_of number_of
-coordinate_of-too_great = refl
+-- a triangle with two equal corners is dropped, also where their numbers differ
+pub mesh-dropped : with_last (codes "f 1 2 2") ≡ Err Empty
+unfolding mesh with_line words_of without_return vertex_of face_of corner_of vertex_named coordinate_of numeral_of exponent_of scaled has_distinct_corners same_point
+mesh-dropped = refl
 
-pub coordinate_of-too_small : coordinate_of (codes "-1025") ≡ None
-unfolding coordinate_of signed_of number_of
-coordinate_of-too_small = refl
+pub mesh-dropped_of_polygon : with_last (line (codes "v 1 0 1") ++ codes "f 1 2 4 3") ≡ Ok (tri a b c ∷ [])
+unfolding mesh with_line words_of without_return vertex_of face_of corner_of vertex_named coordinate_of numeral_of exponent_of scaled has_distinct_corners same_point
+mesh-dropped_of_polygon = refl
 
-pub coordinate_of-five_digits : coordinate_of (codes "00001") ≡ None
-unfolding coordinate_of signed_of number_of
-coordinate_of-five_digits = refl
-
-pub coordinate_of-no_digit : coordinate_of (codes "-") ≡ None
-unfolding coordinate_of signed_of number_of
-coordinate_of-no_digit = refl
-
-pub coordinate_of-plus : coordinate_of (codes "+1") ≡ None
-unfolding coordinate_of signed_of number_of
-coordinate_of-plus = refl
-
-pub coordinate_of-nothing_there : coordinate_of [] ≡ None
-unfolding coordinate_of signed_of number_of
-coordinate_of-nothing_there = refl
+-- a fan round its first corner, in order behind the triangles of the lines above
+pub mesh-fan : with_last (line (codes "v -1 0 -1") ++ line (codes "f 4 3 2") ++ codes "f 1 2 3 4") ≡ Ok (tri d c b ∷ tri a b c ∷ tri a c d ∷ [])
+unfolding mesh with_line words_of without_return vertex_of face_of corner_of vertex_named coordinate_of numeral_of exponent_of scaled has_distinct_corners same_point
+mesh-fan = refl

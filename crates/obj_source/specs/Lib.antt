@@ -1,3 +1,10 @@
-pub mod PlainText
+pub mod Drafts
+pub mod Lines
+pub mod Mesh
+pub mod Numerals
 pub mod Readings
+pub mod References
+pub mod Rows
+pub mod Scans
 pub mod SourceTriangles
+pub mod Tokens

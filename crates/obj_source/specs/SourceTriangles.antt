@@ -1,5 +1,5 @@
 -- What holds of each triangle of a mesh that was read.
-use Rattle.std.specs.Prelude.{Bool, not, ◌&&◌, IsTrue, ◌≤◌, ℤ, pos, negsuc, ◌≤ℤ◌, List, length}
+use Rattle.std.specs.Prelude.{Bool, not, ◌&&◌, IsTrue, ◌≤◌, ◌^◌, ℤ, pos, negsuc, ◌≤ℤ◌, List, length}
 use Rattle.std.specs.List.{All}
 use Rattle.geom_core.specs.declared.points.Pt.{Pt}
 use Rattle.geom_core.specs.declared.triangles.Tri.{Tri}
@@ -25,7 +25,7 @@ pub record IsSourceTriangle (t : Tri) : Type 0 where
   pub c : IsSourcePoint t.c
   pub distinct : IsTrue (has_distinct_corners t)
 
--- at most 65,536 of them
+-- at most 2^20 of them
 pub record AreSourceTriangles (tris : List Tri) : Type 0 where
   pub each : All IsSourceTriangle tris
-  pub count : length tris ≤ 65536
+  pub count : length tris ≤ 2 ^ 20

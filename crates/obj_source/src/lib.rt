@@ -1,18 +1,25 @@
-//! Meshes from Wavefront OBJ text: the plain form, `v` and `f` lines of whole numbers.
+//! Meshes from Wavefront OBJ text: vertices and polygons of any export, with the exact first fault.
 //!
-//! Which texts are plain, and which triangles they list, stands in `specs/PlainText.antt`; `read_obj`
-//! keeps it, over a source that gives the text in pieces of any size.
+//! Which triangles a text lists, and which fault is its first, stands in `specs/Mesh.antt`; `read_obj` keeps
+//! it, over a source that gives the text in pieces of any size. `specs/Numerals.antt` says which words are
+//! numerals and which coordinate each gives.
 #![tactic(auto)]
 
+mod decimals;
 mod drafts;
 mod faults;
-mod gathering;
-mod lines;
+mod numbers;
 mod reading;
-mod words;
+mod references;
+mod rounding;
+mod rows;
+mod tokens;
 
-pub use faults::ObjFault;
+pub use faults::{ObjFault, ObjWhy};
+pub use numbers::{NumberWhy, read_coordinate};
 pub use reading::read_obj;
 
+#[cfg(test)]
+mod number_tests;
 #[cfg(test)]
 mod tests;

@@ -1,48 +1,63 @@
-ghost use Rattle.std.specs.Prelude.{◌≡◌, ◌≤◌, IfOk, IfErr, OnOk, length, option_map};
-ghost use Rattle.obj_source.specs.PlainText.{plain_triangles};
+ghost use Rattle.std.specs.Prelude.{◌≡◌, ◌≤◌, IfOk, IfErr, OnOk, vec_len};
 ghost use Rattle.obj_source.specs.Readings.{Listed, ReadToEnd, Refused};
 ghost use Rattle.obj_source.specs.SourceTriangles.{AreSourceTriangles};
 
-use crate::drafts::Draft;
 use crate::faults::ObjFault;
-use crate::gathering::read_text;
+use crate::tokens::Tokens;
 use geom_core::Tri;
-use span_io::Source;
+use span_io::{Got, Source};
 use std::alloc::{AllocError, Global};
 
-/// The triangles that a text lists; none where the text is not plain.
-fn triangles_of(alloc: Global, text: &[u8], scale: u32) -> Result<Option<Vec<Tri>>, AllocError>
-    requires scaled { scale ≡ 1024 }
-    requires short { length text.now ≤ 65536 }
-    ensures { IfOk result (λ tris. option_map (λ v. v.items) tris ≡ plain_triangles text.now) }
+/// The most bytes of a text that is read.
+const LONGEST: usize = 268_435_456;
+
+/// The most bytes that are asked for at once.
+const PIECE: usize = 65_536;
+
+/// So many bytes, all 0.
+fn zeros(alloc: Global, len: usize) -> Result<Vec<u8>, AllocError>
+    ensures { IfOk result (λ bytes. vec_len bytes ≡ len) }
 {
-    match Draft::of(alloc, text, scale)? {
-        Some(draft) => Ok(draft.triangles()),
-        None => Ok(None),
-    }
+    vec![in alloc; 0; len]
 }
 
-/// The triangles of a plain OBJ text, in the order of its `f` lines.
+/// The triangles of an OBJ text on a grid of `scale` steps to the unit, in the order of its `f` lines, or
+/// its first fault.
 ///
-/// A plain text has at most 65,536 bytes. Each of its lines ends with an LF and is `v X Y Z` or
-/// `f I J K`, its words parted by one space. X, Y and Z are an optional `-` and one to four digits,
-/// with a value from -1,024 to 1,024; a coordinate is `scale` times that. I, J and K are one to five
-/// digits and name vertices of earlier lines, counted from 1, at three points that differ. There is at
-/// least one `f` line.
+/// An LF ends a line, a CR before it is dropped, and a `#` begins a comment. A line `v X Y Z` is a vertex,
+/// as `read_coordinate` reads its numerals; what follows them is passed over. A line `f` and three corners
+/// or more is a polygon, cut into a fan round its first corner. A corner begins with a vertex's number: from
+/// 1 on in the order of the vertices above, from -1 on backwards; what follows a `/` is passed over. A
+/// triangle with two equal corners is dropped. Every other line is passed over, whatever its bytes.
 ///
-/// The source is read to its end, or to the first byte too many. `Read` comes only where its count of
-/// faults rose.
+/// The text is read to its end, or to its first faulty line, or to the first byte above 2^28. `Read` comes
+/// only where the source's count of faults rose. Memory is taken for the vertices, the triangles and the
+/// longest word of a `v` or `f` line.
 pub fn read_obj<S: Source>(alloc: Global, src: &mut S, scale: u32) -> Result<Vec<Tri>, ObjFault>
-    requires { scale ≡ 1024 }
+    requires grid { (1 ≤ scale) × (scale ≤ 65536) }
 
-    ensures listed { IfOk result (λ tris. Listed (S.left src.old) tris.items) }
+    ensures listed { IfOk result (λ tris. Listed scale (S.left src.old) tris.items) }
     ensures sound { IfOk result (λ tris. AreSourceTriangles tris.items) }
     ensures ended { OnOk result (ReadToEnd (S.left src.old) (S.left src.new)) }
 
-    ensures refused { IfErr result (Refused (S.left src.old) (S.left src.new)
+    ensures refused { IfErr result (Refused scale (S.left src.old) (S.left src.new)
         (S.faults src.old) (S.faults src.new)) }
     ensures count { S.faults src.old ≤ S.faults src.new }
 {
-    let text = read_text(alloc, src)?;
-    triangles_of(alloc, &text, scale)?.ok_or(ObjFault::LaterForm)
+    let mut tokens = Tokens::of(alloc, scale);
+    let mut buffer = zeros(alloc, PIECE)?;
+    let mut count = 0;
+    'pieces: while count <= LONGEST {
+        let room = PIECE.min(LONGEST + 1 - count);
+        let piece = &mut buffer[..room];
+        match src.read_some(piece) {
+            Got::Bytes(more) => {
+                tokens.take(&piece[..more.min(LONGEST - count)])?;
+                count += more;
+            }
+            Got::End => return tokens.end(),
+            Got::Failed => return Err(ObjFault::Read),
+        }
+    }
+    Err(ObjFault::TooLong)
 }

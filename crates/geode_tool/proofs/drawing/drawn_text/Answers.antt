@@ -3,6 +3,7 @@ use Rattle.std.proofs.Math.Nat.{mul-mod_right}
 use Rattle.geom_core.specs.Picture.{items_of, picture}
 use Rattle.geode_tool.specs.PictureText.{picture_text_of}
 use Rattle.geode_tool.specs.Draw.{drawing_text}
+use Rattle.geode_tool.proofs.DrawAnswers.{obj_refused}
 use Rattle.geode_tool.proofs.drawing.drawn_text.Goals as goal
 
 pub picture_text-requires-clause-whole_rows : goal.picture_text-requires-clause-whole_rows
@@ -23,3 +24,7 @@ returns-clause-drawn g c =
       listed = c.in_ok-tris.ensures.listed;
       shown = c.in_ok-picture_text.ensures ∙ ap (λ (l : List ℕ). picture_text_of l drawing.size.width) words;
     }
+
+pub returns-in_err-tris-clause-refused : goal.returns-in_err-tris-clause-refused
+returns-in_err-tris-clause-refused g c =
+    obj_refused _ _ _ _ _ c.in_err-tris.field-0.0 c.from_residual.ensures c.in_err-tris.ensures.refused

@@ -1,0 +1,250 @@
+-- The triangles of a mesh are source triangles, whatever the text.
+use Rattle.std.proofs.Common.{◌≡◌, ℕ, ◌+◌, ◌^◌, Bool, true, false, cond, eqb, leb, ltb, ◌&&◌, List, [], ◌∷◌, length, drop, length-append, ℤ, pos, negsuc, Option, Some, None, option_map, Result, Ok, Err, refl, subst, arith}
+use Rattle.std.specs.Prelude.{int_le}
+use Rattle.std.specs.List.{All, slice_get, filter}
+use Rattle.std.proofs.lemmas.Bool.{leb-true}
+use Rattle.std.proofs.lemmas.Int.{ints}
+use Rattle.std.proofs.lemmas.List.Elements.{All-nil, All-cons, All-head, All-tail, All-push, All-append, All-filter, filter_passes}
+use Rattle.std.proofs.lemmas.Option.{get_or_from_slice_get, slice_get_within}
+use Rattle.geom_core.specs.declared.points.Pt.{Pt}
+use Rattle.geom_core.specs.declared.triangles.Tri.{Tri}
+use Rattle.obj_source.specs.declared.faults.ObjFault.{ObjFault}
+use Rattle.obj_source.specs.declared.faults.ObjFault.TheVariants.{TooMany, TooLong, Empty}
+use Rattle.obj_source.specs.declared.faults.ObjWhy.{ObjWhy}
+use Rattle.obj_source.specs.declared.faults.ObjWhy.TheVariants.{ShortFace, BadCorner}
+use Rattle.obj_source.specs.declared.numbers.NumberWhy.{NumberWhy}
+use Rattle.obj_source.specs.declared.numbers.NumberWhy.TheVariants.{Bad, Range}
+use Rattle.obj_source.specs.Lines.{lines_of, words_of}
+use Rattle.obj_source.specs.Numerals.{Numeral, numeral_of, is_short, scaled, is_coordinate, in_grid, coordinate_in, coordinate_of, has_minus}
+use Rattle.obj_source.specs.Mesh.{◌>>=◌, number_at, coordinate_at, vertex_of, vertex_named, named_or, corner_of, corners_of, fan, face_of, Said, nothing, with_vertex, with_triangles, on_line, begins_with, with_line, read_lines, some_triangles, longest, mesh}
+use Rattle.obj_source.specs.Readings.{Listed}
+use Rattle.obj_source.specs.SourceTriangles.{has_distinct_corners, InRange, IsSourcePoint, IsSourceTriangle, AreSourceTriangles}
+
+same_ok : {A F : Type 0} (x y : A) → ◌≡◌ {A = Result A F} (Ok x) (Ok y) → x ≡ y
+same_ok x y e = cc
+
+-- what two readings gave, each gave
+both_ok : {A B F : Type 0} (found : Result A F) (next : A → Result B F) (y : B) → (found >>= next) ≡ Ok y → (x : A) × (found ≡ Ok x) × (next x ≡ Ok y)
+both_ok (Ok x) next y e = (x, refl, e)
+both_ok (Err fault) next y e = absurd (cc)
+
+-- what a test lets through
+passed_ok : {A F : Type 0} (b : Bool) (found : Result A F) (fault : F) (x : A) → cond b found (Err fault) ≡ Ok x → (b ≡ true) × (found ≡ Ok x)
+passed_ok true found fault x e = (refl, e)
+passed_ok false found fault x e = absurd (cc)
+
+-- what a test doesn't refuse
+refused_ok : {A F : Type 0} (b : Bool) (fault : F) (found : Result A F) (x : A) → cond b (Err fault) found ≡ Ok x → found ≡ Ok x
+refused_ok true fault found x e = absurd (cc)
+refused_ok false fault found x e = e
+
+and_both : (a b : Bool) → a && b ≡ true → (a ≡ true) × (b ≡ true)
+and_both true b e = (refl, e)
+and_both false b e = absurd (cc)
+
+-- a number that the grid lets through is within it
+grid_in_range : (n x : ℤ) → in_grid n ≡ Ok x → InRange x
+grid_in_range n x e =
+    let passed = passed_ok (is_coordinate n) (Ok n) Range x e in
+    let within = and_both (int_le (negsuc 1048575) n) (int_le n (pos 1048576)) passed.0 in
+    let low = within.0 in
+    let high = within.1 in
+    subst InRange (same_ok n x passed.1) (record { low = grind (arith, ints); high = grind (arith, ints) })
+
+numeral_in_range : (scale : ℕ) (numeral : Option Numeral) (x : ℤ) → coordinate_in scale numeral ≡ Ok x → InRange x
+numeral_in_range scale None x e = absurd (cc)
+numeral_in_range scale (Some n) x e =
+    grid_in_range (scaled scale n) x (passed_ok (is_short n) (in_grid (scaled scale n)) Bad x e).1
+
+-- a coordinate is in the range
+pub coordinate_in_range : (scale : ℕ) (word : List ℕ) (x : ℤ) → coordinate_of scale word ≡ Ok x → InRange x
+unfolding coordinate_of
+coordinate_in_range scale word x e = numeral_in_range scale (numeral_of word) x e
+
+-- a number that stands at a place was read there
+read_there : (place : ℕ) (found : Result ℤ NumberWhy) (x : ℤ) → number_at place (Some found) ≡ Ok x → found ≡ Ok x
+read_there place (Ok n) x e = cc
+read_there place (Err Bad) x e = absurd (cc)
+read_there place (Err Range) x e = absurd (cc)
+
+pub number_in_range : (scale place : ℕ) (word : Option (List ℕ)) (x : ℤ) → number_at place (option_map (coordinate_of scale) word) ≡ Ok x → InRange x
+number_in_range scale place None x e = absurd (cc)
+number_in_range scale place (Some word) x e = coordinate_in_range scale word x (read_there place (coordinate_of scale word) x e)
+
+-- the vertex of a `v` line is within the grid
+pub vertex_is_source : (scale : ℕ) (words : List (List ℕ)) (p : Pt) → vertex_of scale words ≡ Ok p → IsSourcePoint p
+unfolding vertex_of
+vertex_is_source scale words p e =
+    let x = both_ok (coordinate_at scale words 1) _ p e in
+    let y = both_ok (coordinate_at scale words 2) _ p x.2 in
+    let z = both_ok (coordinate_at scale words 3) _ p y.2 in
+    subst IsSourcePoint (same_ok _ p z.2) (record {
+      x = number_in_range scale 1 (slice_get words 1) x.0 x.1;
+      y = number_in_range scale 2 (slice_get words 2) y.0 y.1;
+      z = number_in_range scale 3 (slice_get words 3) z.0 z.1;
+    })
+
+slice_get_all : (P : Pt → Type 0) (points : List Pt) (k : ℕ) (p : Pt) → All P points → slice_get points k ≡ Some p → P p
+slice_get_all P points k p all e = subst P (get_or_from_slice_get points k p p e) (all k p (slice_get_within points k p e))
+
+chosen_some : {A : Type 0} (b : Bool) (found : Option A) (x : A) → cond b found None ≡ Some x → found ≡ Some x
+chosen_some true found x e = e
+chosen_some false found x e = absurd (cc)
+
+-- a vertex that is named is one of the vertices
+pub vertex_named_all : (P : Pt → Type 0) (vertices : List Pt) (is_negative : Bool) (j : ℕ) (p : Pt) → All P vertices → vertex_named vertices is_negative j ≡ Some p → P p
+unfolding vertex_named
+vertex_named_all P vertices is_negative j p all e =
+    slice_get_all P vertices _ p all (chosen_some (leb 1 j && leb j (length vertices)) _ p e)
+
+named_some : (place : ℕ) (found : Option Pt) (p : Pt) → named_or place found ≡ Ok p → found ≡ Some p
+named_some place None p e = absurd (cc)
+named_some place (Some q) p e = cc
+
+-- a corner is one of the vertices
+pub corner_of_all : (P : Pt → Type 0) (vertices : List Pt) (place : ℕ) (word : List ℕ) (p : Pt) → All P vertices → corner_of vertices place word ≡ Ok p → P p
+unfolding corner_of
+corner_of_all P vertices place word p all e =
+    let named = passed_ok _ _ (BadCorner place) p e in
+    vertex_named_all P vertices (has_minus word) _ p all (named_some place _ p named.1)
+
+pub corners_of_all : (P : Pt → Type 0) (vertices : List Pt) (place : ℕ) (words : List (List ℕ)) (points : List Pt) → All P vertices → corners_of vertices place words ≡ Ok points → All P points
+corners_of_all P vertices place [] points all e = subst (All P) (same_ok [] points e) (All-nil P)
+corners_of_all P vertices place (word ∷ words) points all e =
+    let first = both_ok (corner_of vertices place word) _ points e in
+    let others = both_ok (corners_of vertices (place + 1) words) _ points first.2 in
+    subst (All P) (same_ok _ points others.2)
+    (All-cons P first.0 others.0 (corner_of_all P vertices place word first.0 all first.1)
+    (corners_of_all P vertices (place + 1) words others.0 all others.1))
+
+-- the three corners of a triangle
+pub record HasCorners (P : Pt → Type 0) (t : Tri) : Type 0 where
+  pub a : P t.a
+  pub b : P t.b
+  pub c : P t.c
+
+-- the corners of a fan's triangles are corners of the polygon
+pub fan_all : (P : Pt → Type 0) (points : List Pt) → All P points → All (HasCorners P) (fan points)
+fan_all P [] all = All-nil (HasCorners P)
+fan_all P (a ∷ []) all = All-nil (HasCorners P)
+fan_all P (a ∷ b ∷ []) all = All-nil (HasCorners P)
+fan_all P (a ∷ b ∷ c ∷ rest) all =
+    let is_a = All-head P a (b ∷ c ∷ rest) all in
+    let behind = All-tail P a (b ∷ c ∷ rest) all in
+    let is_b = All-head P b (c ∷ rest) behind in
+    let others = All-tail P b (c ∷ rest) behind in
+    All-cons (HasCorners P) _ (fan (a ∷ c ∷ rest))
+    (record { a = is_a; b = is_b; c = All-head P c rest others })
+    (fan_all P (a ∷ c ∷ rest) (All-cons P a (c ∷ rest) is_a others))
+
+-- those of them with three different corners are source triangles
+distinct_are_source : (tris : List Tri) → All (HasCorners IsSourcePoint) tris → All IsSourceTriangle (filter has_distinct_corners tris)
+distinct_are_source tris all k d h =
+    let corners = All-filter has_distinct_corners (HasCorners IsSourcePoint) tris all k d h in
+    let distinct = filter_passes has_distinct_corners tris k d h in
+    record { a = corners.a; b = corners.b; c = corners.c; distinct = rw distinct }
+
+pub face_is_source : (vertices : List Pt) (words : List (List ℕ)) (tris : List Tri) → All IsSourcePoint vertices → face_of vertices words ≡ Ok tris → All IsSourceTriangle tris
+unfolding face_of
+face_is_source vertices words tris all e =
+    let points = both_ok (corners_of vertices 1 (drop 1 words)) _ tris (refused_ok (ltb (length words) 4) ShortFace _ tris e) in
+    subst (All IsSourceTriangle) (same_ok _ tris points.2)
+    (distinct_are_source (fan points.0)
+    (fan_all IsSourcePoint points.0 (corners_of_all IsSourcePoint vertices 1 (drop 1 words) points.0 all points.1)))
+
+-- what the lines so far have said is sound
+pub record IsSound (said : Said) : Type 0 where
+  pub vertices : All IsSourcePoint said.vertices
+  pub triangles : AreSourceTriangles said.triangles
+
+pub nothing_sound : IsSound nothing
+nothing_sound = record {
+  vertices = All-nil IsSourcePoint;
+  triangles = record { each = All-nil IsSourceTriangle; count = omega arith };
+}
+
+pub with_vertex_sound : (said : Said) (p : Pt) → IsSound said → IsSourcePoint p → IsSound (with_vertex said p)
+with_vertex_sound said p sound is_p = record {
+  vertices = All-push IsSourcePoint said.vertices p sound.vertices is_p;
+  triangles = sound.triangles;
+}
+
+pub with_triangles_sound : (said more : Said) (tris : List Tri) → IsSound said → All IsSourceTriangle tris → with_triangles said tris ≡ Ok more → IsSound more
+with_triangles_sound said more tris sound all e =
+    let fits = passed_ok (leb (length said.triangles + length tris) (2 ^ 20)) (Ok _) TooMany more e in
+    let count = leb-true (length said.triangles + length tris) (2 ^ 20) fits.0 in
+    subst IsSound (same_ok _ more fits.1) (record {
+      vertices = sound.vertices;
+      triangles = record {
+        each = All-append IsSourceTriangle said.triangles tris sound.triangles.each all;
+        count = omega (arith, length-append said.triangles tris);
+      };
+    })
+
+-- what a line said, it said
+said_ok : {A : Type 0} (line : ℕ) (found : Result A ObjWhy) (x : A) → on_line line found ≡ Ok x → found ≡ Ok x
+said_ok line (Ok y) x e = cc
+said_ok line (Err why) x e = absurd (cc)
+
+vertex_line_sound : (scale : ℕ) (said more : Said) (line : ℕ) (words : List (List ℕ)) → IsSound said → (on_line line (vertex_of scale words) >>= (λ p. Ok (with_vertex said p))) ≡ Ok more → IsSound more
+vertex_line_sound scale said more line words sound e =
+    let p = both_ok (on_line line (vertex_of scale words)) _ more e in
+    subst IsSound (same_ok _ more p.2)
+    (with_vertex_sound said p.0 sound (vertex_is_source scale words p.0 (said_ok line (vertex_of scale words) p.0 p.1)))
+
+face_line_sound : (said more : Said) (line : ℕ) (words : List (List ℕ)) → IsSound said → (on_line line (face_of said.vertices words) >>= with_triangles said) ≡ Ok more → IsSound more
+face_line_sound said more line words sound e =
+    let tris = both_ok (on_line line (face_of said.vertices words)) (with_triangles said) more e in
+    with_triangles_sound said more tris.0 sound
+    (face_is_source said.vertices words tris.0 sound.vertices (said_ok line (face_of said.vertices words) tris.0 tris.1)) tris.2
+
+by_kind : (is_vertex is_face : Bool) (vertex face other : Result Said ObjFault) (more : Said) → cond is_vertex vertex (cond is_face face other) ≡ Ok more → (vertex ≡ Ok more → IsSound more) → (face ≡ Ok more → IsSound more) → (other ≡ Ok more → IsSound more) → IsSound more
+by_kind true is_face vertex face other more e one two three = one e
+by_kind false true vertex face other more e one two three = two e
+by_kind false false vertex face other more e one two three = three e
+
+-- one line more
+pub with_line_sound : (scale : ℕ) (said more : Said) (line : ℕ) (words : List (List ℕ)) → IsSound said → with_line scale said line words ≡ Ok more → IsSound more
+unfolding with_line
+with_line_sound scale said more line words sound e =
+    by_kind (begins_with 118 words) (begins_with 102 words) _ _ (Ok said) more e
+    (vertex_line_sound scale said more line words sound)
+    (face_line_sound said more line words sound)
+    (λ same. subst IsSound (same_ok said more same) sound)
+
+-- the lines in order
+pub read_lines_sound : (scale : ℕ) (said more : Said) (line : ℕ) (lines : List (List ℕ)) → IsSound said → read_lines scale said line lines ≡ Ok more → IsSound more
+read_lines_sound scale said more line [] sound e = subst IsSound (same_ok said more e) sound
+read_lines_sound scale said more line (first ∷ rest) sound e =
+    let next = both_ok (with_line scale said line (words_of first)) _ more e in
+    read_lines_sound scale next.0 more (line + 1) rest (with_line_sound scale said next.0 line (words_of first) sound next.1) next.2
+
+some_triangles_sound : (said : Said) (tris : List Tri) → IsSound said → some_triangles said ≡ Ok tris → AreSourceTriangles tris
+some_triangles_sound said tris sound e =
+    subst AreSourceTriangles (same_ok said.triangles tris (refused_ok (eqb (length said.triangles) 0) Empty _ tris e)) sound.triangles
+
+-- a text that is read whole
+whole_sound : (scale : ℕ) (lines : List (List ℕ)) (tris : List Tri) → (read_lines scale nothing 1 lines >>= some_triangles) ≡ Ok tris → AreSourceTriangles tris
+whole_sound scale lines tris e =
+    let said = both_ok (read_lines scale nothing 1 lines) some_triangles tris e in
+    some_triangles_sound said.0 tris (read_lines_sound scale nothing said.0 1 lines nothing_sound said.1) said.2
+
+-- a text that is too long has no triangles
+never_ok : (read : Result Said ObjFault) (tris : List Tri) → ◌≡◌ {A = Result (List Tri) ObjFault} (read >>= (λ said. Err TooLong)) (Ok tris) → AreSourceTriangles tris
+never_ok (Ok said) tris e = absurd (cc)
+never_ok (Err fault) tris e = absurd (cc)
+
+by_length : (is_short : Bool) (short long : Result (List Tri) ObjFault) (tris : List Tri) → cond is_short short long ≡ Ok tris → (short ≡ Ok tris → AreSourceTriangles tris) → (long ≡ Ok tris → AreSourceTriangles tris) → AreSourceTriangles tris
+by_length true short long tris e one two = one e
+by_length false short long tris e one two = two e
+
+-- the triangles of a mesh
+pub mesh_sound : (scale : ℕ) (text : List ℕ) (tris : List Tri) → mesh scale text ≡ Ok tris → AreSourceTriangles tris
+unfolding mesh
+mesh_sound scale text tris e =
+    by_length (leb (length text) longest) _ _ tris e (whole_sound scale (lines_of text) tris) (never_ok _ tris)
+
+-- what a reading listed, also where the text isn't told
+pub listed_sound : (scale : ℕ) (left : Option (List ℕ)) (tris : List Tri) → Listed scale left tris → AreSourceTriangles tris
+listed_sound scale None tris listed = mesh_sound scale listed.0 tris listed.1
+listed_sound scale (Some text) tris listed = mesh_sound scale text tris listed

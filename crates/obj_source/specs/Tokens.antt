@@ -1,0 +1,106 @@
+-- What the bytes of a text so far came to.
+use Rattle.std.specs.Prelude.{◌≡◌, ◌≤◌, ◌^◌, ◌+◌, Bool, false, ◌||◌, ℕ, List, [], ◌∷◌, ◌++◌, length, Result, Ok, Err}
+use Rattle.std.specs.List.{All, filter}
+use Rattle.geom_core.specs.declared.triangles.Tri.{Tri}
+use Rattle.obj_source.specs.declared.drafts.Draft.{Draft}
+use Rattle.obj_source.specs.declared.faults.ObjFault.{ObjFault}
+use Rattle.obj_source.specs.declared.faults.ObjFault.TheVariants.{Line, TooMany, TooLong, Empty, Read, Memory}
+use Rattle.obj_source.specs.declared.tokens.Part.{Part}
+use Rattle.obj_source.specs.declared.tokens.Part.TheVariants.{First, Later, Passed}
+use Rattle.obj_source.specs.declared.tokens.Tokens.{Tokens}
+use Rattle.obj_source.specs.Drafts.{so_far, Stands}
+use Rattle.obj_source.specs.Rows.{corner_count}
+use Rattle.obj_source.specs.Lines.{is_line_feed, is_hash, is_blank, is_word, lines_of, words_of}
+use Rattle.obj_source.specs.Mesh.{Said, nothing, with_line, read_lines, ended_lines, longest, mesh}
+
+-- a byte that parts words or begins a comment
+abbrev pub parts_words : ℕ → Bool
+parts_words b = is_blank b || is_hash b
+
+-- a byte behind which a word has ended
+abbrev pub ends_word : ℕ → Bool
+ends_word b = parts_words b || is_line_feed b
+
+-- a byte that ends a part of a line
+abbrev pub ends_part : Part → ℕ → Bool
+ends_part Passed b = is_line_feed b
+ends_part _ b = ends_word b
+
+-- The lines that ended in the text have said this, and the next one, of this number, begins with the bytes
+-- `begun`: so whatever follows, it is read as if those bytes stood before it.
+pub record LinesRead (scale : ℕ) (text : List ℕ) (said : Said) (line : ℕ) (begun : List ℕ) : Type 0 where
+  pub one_line : All (λ b. is_line_feed b ≡ false) begun
+  pub all : (rest : List ℕ) → read_lines scale nothing 1 (lines_of (text ++ rest)) ≡ read_lines scale said line (lines_of (begun ++ rest))
+  pub ended : (rest : List ℕ) → read_lines scale nothing 1 (ended_lines (text ++ rest)) ≡ read_lines scale said line (ended_lines (begun ++ rest))
+
+-- The words of a line that begins with the bytes `begun` are these, and those of `word` with what follows.
+pub record WordsRead (begun word : List ℕ) (words : List (List ℕ)) : Type 0 where
+  pub inside : All (λ b. parts_words b ≡ false) word
+  pub go_on : (rest : List ℕ) → words_of (begun ++ rest) ≡ words ++ words_of (word ++ rest)
+
+-- what is a word of what stands between two blanks
+abbrev pub kept : List ℕ → List (List ℕ)
+kept word = filter is_word (word ∷ [])
+
+-- the draft stands for these words of the open line, on a grid of `scale` steps to the unit
+abbrev pub StandsOn : Draft → ℕ → Said → ℕ → List (List ℕ) → Type 0
+StandsOn draft scale said line words = (draft.scale ≡ scale) × Stands draft said line words
+
+-- the same, and where the rest of the line is passed over, for these words and any that follow
+abbrev pub StandsAt : Part → Draft → ℕ → Said → ℕ → List (List ℕ) → Type 0
+StandsAt First draft scale said line words = (words ≡ []) × StandsOn draft scale said line []
+StandsAt Later draft scale said line words = StandsOn draft scale said line words
+StandsAt Passed draft scale said line words =
+    (more : List (List ℕ)) → StandsOn draft scale said line (words ++ more)
+
+-- the draft stands for the open line as far as it came
+abbrev pub LineRead : Part → Draft → List ℕ → ℕ → Said → ℕ → List ℕ → Type 0
+LineRead First draft word scale said line begun =
+    StandsOn draft scale said line [] × WordsRead begun word []
+LineRead Later draft word scale said line begun =
+    (words : List (List ℕ)) × StandsOn draft scale said line words × WordsRead begun word words
+LineRead Passed draft word scale said line begun =
+    (word ≡ []) × ((rest : List ℕ) → StandsOn draft scale said line (words_of (begun ++ rest)))
+
+-- what a draft can go on from: its line's number and the count of the line's corners are at most these
+pub record IsReady (draft : Draft) (line corners : ℕ) : Type 0 where
+  pub low : 1 ≤ draft.scale
+  pub high : draft.scale ≤ 65536
+  pub few : length draft.triangles.items ≤ 2 ^ 20
+  pub line_fits : draft.line ≤ line
+  pub corners_fit : corner_count draft.row ≤ corners
+
+-- the line was judged: the draft stands for it, and for no word of the next one
+pub record LineJudged (draft : Draft) (scale : ℕ) (said : Said) (line : ℕ) (words : List (List ℕ)) : Type 0 where
+  pub judged : with_line scale said line words ≡ Ok (so_far draft)
+  pub stands : StandsOn draft scale (so_far draft) (line + 1) []
+
+-- these bytes of a text were taken in
+pub record HasTaken (tokens : Tokens) (scale : ℕ) (text : List ℕ) : Type 0 where
+  pub said : Said
+  pub line : ℕ
+  pub begun : List ℕ
+  pub lines : LinesRead scale text said line begun
+  pub words : LineRead tokens.part tokens.draft tokens.word.items scale said line begun
+  pub ready : IsReady tokens.draft (length text + 1) (length text)
+
+-- some text was taken in, and with so many bytes more it is short enough
+abbrev pub HasRoom : Tokens → ℕ → Type 0
+HasRoom tokens more = (scale : ℕ) × (text : List ℕ) × HasTaken tokens scale text × (length text + more ≤ longest)
+
+-- the first fault of every text that begins with this one stands in a line that ended in it
+pub record IsFirstFault (scale : ℕ) (text : List ℕ) (fault : ObjFault) : Type 0 where
+  pub all : (rest : List ℕ) → read_lines scale nothing 1 (lines_of (text ++ rest)) ≡ Err fault
+  pub ended : (rest : List ℕ) → read_lines scale nothing 1 (ended_lines (text ++ rest)) ≡ Err fault
+
+-- what a refusal says, where P holds of the fault of a line
+abbrev pub OnLineFault : (ObjFault → Type 0) → ObjFault → Type 0
+OnLineFault P (Line line why) = P (Line line why)
+OnLineFault P TooMany = P TooMany
+OnLineFault P Memory = Unit {0}
+OnLineFault P _ = ⊥
+
+-- what a refusal at its end says of a text
+abbrev pub RefusedAtEnd : ℕ → List ℕ → ObjFault → Type 0
+RefusedAtEnd scale text Empty = mesh scale text ≡ Err Empty
+RefusedAtEnd scale text fault = OnLineFault (λ f. mesh scale text ≡ Err f) fault
