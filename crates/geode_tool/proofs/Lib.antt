@@ -10,6 +10,7 @@ pub mod DrawWords
 pub mod DrawnItems
 pub mod Greatest
 pub mod MadeCameras
+pub mod Missed
 pub mod NumberParts
 pub mod Numerals
 pub mod OnScreen

@@ -4,7 +4,10 @@ use Rattle.std.proofs.Common.{arith, sym, ◌∙◌, to_z, of_z, w64, lit<}
 use Rattle.std.proofs.lemmas.Int.{ints, to_z_pos}
 use Rattle.geom_core.specs.declared.points.Pt.{Pt}
 use Rattle.geom_core.specs.declared.screens.Size.{Size}
+use Rattle.geom_core.specs.declared.screens.Spot.{Spot}
 use Rattle.geom_core.specs.Camera.{View, along, on_screen, reversed_depth, spot_of}
+use Rattle.geode_tool.specs.ViewPoints.{spot_at}
+use Rattle.geode_tool.specs.declared.cameras.ViewPoint.{ViewPoint}
 use Rattle.geode_tool.proofs.Bounds.{small_stays}
 
 -- the test of the near depth, as the code has it
@@ -14,17 +17,35 @@ depth_test depth near b p q h =
     let right = to_z_pos w64 near (omega arith) in
     rw (left, right) at h
 
-pub spot_of-near : (view : View) (size : Size) (p : Pt) (depth : ℤ) → depth ≡ along view.forward view.eye p → int_lt depth (pos view.near) ≡ true → None ≡ spot_of view size p
+pub spot_of-near : (view : View) (size : Size) (p : Pt) (depth : ℤ) → depth ≡ along view.forward view.eye p → int_lt depth (pos view.near) ≡ true → spot_of view size p ≡ None
 unfolding spot_of
 spot_of-near view size p depth d h = let t = rw d at h in rw t refl
 
-spot_of-seen : (view : View) (size : Size) (p : Pt) → int_lt (along view.forward view.eye p) (pos view.near) ≡ false → spot_of view size p ≡ Some (record {
-  x = pos (8 * size.width) +ℤ on_screen view.focal (along view.right view.eye p) (along view.forward view.eye p);
-  y = pos (8 * size.height) +ℤ on_screen view.focal (along view.down view.eye p) (along view.forward view.eye p);
-  z = reversed_depth view.near (along view.forward view.eye p);
-})
-unfolding spot_of
-spot_of-seen view size p h = rw h refl
+-- a point in the camera's axes, as the code has it
+abbrev computed : ℤ → ℤ → ℤ → ViewPoint
+computed right down depth =
+    record { right = to_z w64 (of_z w64 right); down = to_z w64 (of_z w64 down); depth = to_z w64 (of_z w64 depth) }
+
+-- what the steps of turning a point give
+pub record Turned (view : View) (p : Pt) (right down depth : ℤ) : Type 0 where
+  pub near : view.near ≤ 2 ^ 34
+  pub right_is : right ≡ along view.right view.eye p
+  pub right_bound : unsigned_abs right ≤ 876173328384
+  pub down_is : down ≡ along view.down view.eye p
+  pub down_bound : unsigned_abs down ≤ 876173328384
+  pub depth_is : depth ≡ along view.forward view.eye p
+  pub depth_bound : unsigned_abs depth ≤ 876173328384
+  pub far : int_lt (to_z w64 (of_z w64 depth)) (to_z w64 view.near) ≡ false
+
+pub spot_of-turned : (view : View) (size : Size) (p : Pt) (right down depth : ℤ) → Turned view p right down depth → spot_of view size p ≡ Some (spot_at view size (computed right down depth))
+unfolding spot_of spot_at
+spot_of-turned view size p right down depth t =
+    let test = depth_test depth view.near false t.depth_bound t.near t.far in
+    let right_stays : to_z w64 (of_z w64 right) ≡ along view.right view.eye p = small_stays right 876173328384 t.right_bound (lit< tt) ∙ t.right_is in
+    let down_stays : to_z w64 (of_z w64 down) ≡ along view.down view.eye p = small_stays down 876173328384 t.down_bound (lit< tt) ∙ t.down_is in
+    let depth_stays : to_z w64 (of_z w64 depth) ≡ along view.forward view.eye p = small_stays depth 876173328384 t.depth_bound (lit< tt) ∙ t.depth_is in
+    let beyond = rw t.depth_is at test in
+    rw (right_stays, down_stays, depth_stays, beyond) refl
 
 -- a coordinate, as the code has it: from the picture's edge
 abbrev from_edge : ℤ → ℤ → ℤ
@@ -33,33 +54,27 @@ from_edge middle offset = to_z w64 (of_z w64 (to_z w64 (of_z w64 middle) +ℤ to
 from_edge_is : (side : ℕ) (middle offset : ℤ) → middle ≡ pos (8 * side) → side ≤ 512 → unsigned_abs offset + 4096 ≤ 2 ^ 42 → from_edge middle offset ≡ pos (8 * side) +ℤ offset
 from_edge_is side middle offset e p q = omega (arith, ints)
 
--- what the steps give: three distances, two middles and offsets, and a depth
-pub record Steps (view : View) (size : Size) (p : Pt) (depth right down middle_x offset_x middle_y offset_y : ℤ) (z : ℕ) : Type 0 where
-  pub near : view.near ≤ 2 ^ 34
+-- what the steps of projecting a point give: two middles and offsets, and a depth
+pub record Projected (view : View) (size : Size) (at : ViewPoint) (middle_x offset_x middle_y offset_y : ℤ) (z : ℕ) : Type 0 where
   pub width : size.width ≤ 512
   pub height : size.height ≤ 512
-  pub depth_is : depth ≡ along view.forward view.eye p
-  pub depth_bound : unsigned_abs depth ≤ 876173328384
-  pub right_is : right ≡ along view.right view.eye p
-  pub right_bound : unsigned_abs right ≤ 876173328384
-  pub down_is : down ≡ along view.down view.eye p
-  pub down_bound : unsigned_abs down ≤ 876173328384
+  pub right : unsigned_abs at.right ≤ 876173328384
+  pub down : unsigned_abs at.down ≤ 876173328384
+  pub depth : unsigned_abs at.depth ≤ 876173328384
   pub middle_x_is : middle_x ≡ pos (8 * size.width)
   pub middle_y_is : middle_y ≡ pos (8 * size.height)
-  pub offset_x_is : offset_x ≡ on_screen view.focal (to_z w64 (of_z w64 right)) (to_z w64 (of_z w64 depth))
+  pub offset_x_is : offset_x ≡ on_screen view.focal (to_z w64 (of_z w64 at.right)) (to_z w64 (of_z w64 at.depth))
   pub offset_x_bound : unsigned_abs offset_x + 4096 ≤ 2 ^ 42
-  pub offset_y_is : offset_y ≡ on_screen view.focal (to_z w64 (of_z w64 down)) (to_z w64 (of_z w64 depth))
+  pub offset_y_is : offset_y ≡ on_screen view.focal (to_z w64 (of_z w64 at.down)) (to_z w64 (of_z w64 at.depth))
   pub offset_y_bound : unsigned_abs offset_y + 4096 ≤ 2 ^ 42
-  pub z_is : z ≡ reversed_depth view.near (to_z w64 (of_z w64 depth))
-  pub far : int_lt (to_z w64 (of_z w64 depth)) (to_z w64 view.near) ≡ false
+  pub z_is : z ≡ reversed_depth view.near (to_z w64 (of_z w64 at.depth))
 
-pub spot_of-steps : (view : View) (size : Size) (p : Pt) (depth right down middle_x offset_x middle_y offset_y : ℤ) (z : ℕ) → Steps view size p depth right down middle_x offset_x middle_y offset_y z → Some (record { x = from_edge middle_x offset_x; y = from_edge middle_y offset_y; z = z }) ≡ spot_of view size p
-spot_of-steps view size p depth right down middle_x offset_x middle_y offset_y z s =
-    let test = depth_test depth view.near false s.depth_bound s.near s.far in
-    let depth_stays : to_z w64 (of_z w64 depth) ≡ along view.forward view.eye p = small_stays depth 876173328384 s.depth_bound (lit< tt) ∙ s.depth_is in
-    let right_stays : to_z w64 (of_z w64 right) ≡ along view.right view.eye p = small_stays right 876173328384 s.right_bound (lit< tt) ∙ s.right_is in
-    let down_stays : to_z w64 (of_z w64 down) ≡ along view.down view.eye p = small_stays down 876173328384 s.down_bound (lit< tt) ∙ s.down_is in
+pub spot_at-projected : (view : View) (size : Size) (at : ViewPoint) (middle_x offset_x middle_y offset_y : ℤ) (z : ℕ) → Projected view size at middle_x offset_x middle_y offset_y z → ◌≡◌ {A = Spot} (record { x = from_edge middle_x offset_x; y = from_edge middle_y offset_y; z = z }) (spot_at view size at)
+unfolding spot_at
+spot_at-projected view size at middle_x offset_x middle_y offset_y z s =
+    let right = small_stays at.right 876173328384 s.right (lit< tt) in
+    let down = small_stays at.down 876173328384 s.down (lit< tt) in
+    let depth = small_stays at.depth 876173328384 s.depth (lit< tt) in
     let x = from_edge_is size.width middle_x offset_x s.middle_x_is s.width s.offset_x_bound in
     let y = from_edge_is size.height middle_y offset_y s.middle_y_is s.height s.offset_y_bound in
-    rw (x, y, s.offset_x_is, s.offset_y_is, s.z_is, depth_stays, right_stays, down_stays)
-    (sym (spot_of-seen view size p (rw s.depth_is at test)))
+    rw (x, y, s.offset_x_is, s.offset_y_is, s.z_is, right, down, depth) refl

@@ -6,7 +6,9 @@ pub mod Draw
 pub mod Faults
 pub mod Outputs
 pub mod PictureText
+pub mod Projections
 pub mod Rows
 pub mod Statuses
 pub mod Texts
+pub mod ViewPoints
 pub mod Words

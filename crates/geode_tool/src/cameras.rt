@@ -1,12 +1,13 @@
-ghost use Rattle.std.specs.Prelude.{◌≡◌, ◌+◌, ◌*◌, ◌^◌, ◌≤◌, ◌<◌, ◌≤ℤ◌, ◌*ℤ◌, ◌-ℤ◌, ℕ, pos, unsigned_abs};
-ghost use Rattle.std.specs.Prelude.{IfSome};
-ghost use Rattle.geom_core.specs.Camera.{along, on_screen, reversed_depth, spot_of};
-ghost use Rattle.geom_core.specs.Floor.{floor_div};
+ghost use Rattle.std.specs.Prelude.{◌≡◌, ◌+◌, ◌^◌, ◌≤◌, ◌<◌, ◌*ℤ◌, ◌-ℤ◌, ℕ, true, [], unsigned_abs};
+ghost use Rattle.std.specs.Prelude.{IfSome, option_map};
+ghost use Rattle.geom_core.specs.Camera.{along, spot_of};
+ghost use Rattle.geom_core.specs.Coverage.{IsPicture, words_of};
 ghost use Rattle.geode_tool.specs.CameraNumbers.{first_bad, is_outside, view_of_numbers, number_at};
 ghost use Rattle.geode_tool.specs.CameraNumbers.{direction_at, IsWithin, IsSeen};
-ghost use Rattle.geom_core.specs.Coverage.{IsPicture};
 ghost use Rattle.geode_tool.specs.Rows.{IsRow, direction_of};
+ghost use Rattle.geode_tool.specs.ViewPoints.{spot_at, IsBeyond};
 
+use crate::projections::{Aim, is_beside, middle, on_screen, reversed_depth};
 use geom_core::{Lens, Pt, Size, Spot};
 use std::marker::Model;
 
@@ -35,9 +36,6 @@ const RANGES: [(i64, i64); 15] = [
     ENTRY,
 ];
 
-/// The reversed depth at the near plane.
-const NEAREST: u64 = 1_073_741_823;
-
 /// Numbers that are no camera's.
 #[derive(Clone, Copy, Debug, PartialEq, Eq)]
 pub(crate) struct BadCamera {
@@ -51,6 +49,17 @@ struct Row {
     x: i32,
     y: i32,
     z: i32,
+}
+
+/// A point in a camera's own axes, from its eye, in 1/16,384 of a coordinate.
+#[derive(Clone, Copy, Debug, PartialEq, Eq)]
+pub(crate) struct ViewPoint {
+    /// How far it lies to the right.
+    pub(crate) right: i64,
+    /// How far it lies down.
+    pub(crate) down: i64,
+    /// How far it lies ahead.
+    pub(crate) depth: i64,
 }
 
 /// A camera: where it stands, how it is turned, and how finely it sees.
@@ -80,6 +89,28 @@ impl Model for Camera {
     ghost invariant = { IsCamera };
 
     ghost inverse = { fields_of };
+}
+
+impl ViewPoint {
+    /// How it lies across the picture.
+    fn across(&self) -> Aim
+        ensures { result ≡ record { offset = self.now.right; depth = self.now.depth } }
+    {
+        Aim {
+            offset: self.right,
+            depth: self.depth,
+        }
+    }
+
+    /// How it lies down the picture.
+    fn downwards(&self) -> Aim
+        ensures { result ≡ record { offset = self.now.down; depth = self.now.depth } }
+    {
+        Aim {
+            offset: self.down,
+            depth: self.depth,
+        }
+    }
 }
 
 impl Camera {
@@ -115,25 +146,52 @@ impl Camera {
         }
     }
 
-    /// Where a point of the grid is seen in a picture of this size, if it is no nearer than the near
-    /// depth.
-    pub(crate) fn screen(&self, size: Size, p: Pt) -> Option<Spot>
-        requires picture { IsPicture size }
+    /// A point of the grid in the camera's axes, if it is no nearer than the near depth.
+    pub(crate) fn turn(&self, p: Pt) -> Option<ViewPoint>
         requires on_grid { IsWithin (2 ^ 20) p }
-        ensures spot { result ≡ spot_of self.now size p }
-        ensures seen { IfSome result IsSeen }
+        ensures beyond { IfSome result (IsBeyond self.now) }
+        ensures spot { (size : Size) → spot_of self.now size p
+            ≡ option_map (spot_at self.now size) result }
     {
         let depth = along(self.forward, self.eye, p);
         if depth < self.near as i64 {
             return None;
         }
-        let right = along(self.right, self.eye, p);
-        let down = along(self.down, self.eye, p);
-        Some(Spot {
-            x: middle(size.width) + on_screen(self.focal, right, depth),
-            y: middle(size.height) + on_screen(self.focal, down, depth),
-            z: reversed_depth(self.near, depth),
+        Some(ViewPoint {
+            right: along(self.right, self.eye, p),
+            down: along(self.down, self.eye, p),
+            depth,
         })
+    }
+
+    /// Where a point is seen in a picture of this size.
+    pub(crate) fn spot(&self, size: Size, at: ViewPoint) -> Spot
+        requires picture { IsPicture size }
+        requires beyond { IsBeyond self.now at }
+        ensures value { result ≡ spot_at self.now size at }
+        ensures seen { IsSeen result }
+    {
+        Spot {
+            x: middle(size.width) + on_screen(self.focal, at.right, at.depth),
+            y: middle(size.height) + on_screen(self.focal, at.down, at.depth),
+            z: reversed_depth(self.near, at.depth),
+        }
+    }
+
+    /// Whether all three points are seen on one side of all the centres of a picture.
+    ///
+    /// The test makes no division, and a triangle of such points covers nothing.
+    pub(crate) fn misses(&self, size: Size, a: ViewPoint, b: ViewPoint, c: ViewPoint) -> bool
+        requires picture { IsPicture size }
+        requires beyond { IsBeyond self.now a × IsBeyond self.now b × IsBeyond self.now c }
+        ensures { result ≡ true → (cluster place : ℕ) →
+            words_of (spot_at self.now size a) (spot_at self.now size b) (spot_at self.now size c)
+            cluster place size ≡ [] }
+    {
+        let focal = self.focal;
+        let Size { width, height } = size;
+        is_beside(focal, width, a.across(), b.across(), c.across())
+            || is_beside(focal, height, a.downwards(), b.downwards(), c.downwards())
     }
 }
 
@@ -214,47 +272,6 @@ fn part(entry: i32, from: i32, to: i32) -> i64
     i64::from(entry) * away
 }
 
-/// The middle of a side of the picture, in sixteenths of a pixel.
-fn middle(side: u32) -> i64
-    requires { side ≤ 512 }
-    ensures { result ≡ pos (8 * side) }
-{
-    8 * i64::from(side)
-}
-
-/// How far from the picture's middle an offset is seen, in sixteenths of a pixel, rounded down.
-fn on_screen(focal: u32, offset: i64, depth: i64) -> i64
-    requires focal { focal ≤ 4096 }
-    requires offset { unsigned_abs offset ≤ 876173328384 }
-    requires depth { pos 16384 ≤ℤ depth }
-    ensures value { result ≡ on_screen focal offset depth }
-    ensures bound { unsigned_abs result + 4096 ≤ 2 ^ 42 }
-{
-    floor(16 * i64::from(focal) * offset, depth)
-}
-
-/// A quotient rounded down, also below 0.
-#[tactic(auto, using(crate::proofs::Bounds::floor_div_positive))]
-fn floor(number: i64, divisor: i64) -> i64
-    requires { pos 16384 ≤ℤ divisor }
-    ensures { result ≡ floor_div number divisor }
-{
-    number.div_euclid(divisor)
-}
-
-/// The depth as the picture has it, falling from 2^30 - 1 at the near depth towards 0.
-fn reversed_depth(near: u64, depth: i64) -> u32
-    requires least { 16384 ≤ near }
-    requires near { near ≤ 2 ^ 34 }
-    requires beyond { pos near ≤ℤ depth }
-    requires bound { unsigned_abs depth ≤ 876173328384 }
-    ensures value { result ≡ reversed_depth near depth }
-    ensures low { 0 < result }
-    ensures high { result < 2 ^ 30 }
-{
-    (near * NEAREST / depth as u64) as u32
-}
-
 #[cfg(test)]
 mod tests {
     use super::*;
@@ -278,6 +295,14 @@ mod tests {
         }
     }
 
+    fn screen(camera: &Camera, size: Size, p: Pt) -> Option<Spot>
+        requires { IsPicture size }
+        requires { IsWithin (2 ^ 20) p }
+    {
+        let at = camera.turn(p)?;
+        Some(camera.spot(size, at))
+    }
+
     #[test]
     fn points_are_seen(rt: HostRuntime) {
         let size = Size {
@@ -299,7 +324,54 @@ mod tests {
             ("nearer than it", (0, 2049, 0), None),
         ];
         for (name, (x, y, z), want) in cases {
-            assert_eq!(rt; camera.screen(size, point(x, y, z)), want, "{name}");
+            let seen = screen(&camera, size, point(x, y, z));
+            assert_eq!(rt; seen, want, "{name}");
+        }
+    }
+
+    // The picture's centres are 8, 24, 40 and 56 sixteenths from its edge.
+    #[test]
+    fn triangles_are_missed(rt: HostRuntime) {
+        let size = Size {
+            width: 4,
+            height: 4,
+        };
+        let camera = Camera::new(FROM_ABOVE).expect(&rt, "a camera");
+        let cases = [
+            (
+                "left of the first column",
+                (-1536, -1600, -4096),
+                (0, 512, 0),
+                true,
+            ),
+            ("on it", (-1536, -1536, -1536), (0, 512, 0), true),
+            (
+                "one point right of it",
+                (-1536, -1472, -1536),
+                (0, 512, 0),
+                false,
+            ),
+            ("on the last column", (1536, 1600, 1600), (0, 512, 0), false),
+            ("right of it", (1600, 1600, 4096), (0, 512, 0), true),
+            ("above", (0, 512, 0), (-1536, -1600, -4096), true),
+            ("below", (0, 512, 0), (1600, 1600, 4096), true),
+            (
+                "left and above, but round the centre",
+                (-1600, 1600, 0),
+                (0, 0, 1600),
+                false,
+            ),
+        ];
+        for (name, (xa, xb, xc), (za, zb, zc), want) in cases {
+            let corners = (
+                camera.turn(point(xa, 0, za)),
+                camera.turn(point(xb, 0, zb)),
+                camera.turn(point(xc, 0, zc)),
+            );
+            let (Some(a), Some(b), Some(c)) = corners else {
+                panic!(&rt; "{name}");
+            };
+            assert_eq!(rt; camera.misses(size, a, b, c), want, "{name}");
         }
     }
 
@@ -312,6 +384,6 @@ mod tests {
         let mut numbers = FROM_ABOVE;
         numbers[1] = 17_179_869_184;
         let camera = Camera::new(numbers).expect(&rt, "a camera");
-        assert_eq!(rt; camera.screen(size, point(-1024, 0, 1024)), None);
+        assert_eq!(rt; screen(&camera, size, point(-1024, 0, 1024)), None);
     }
 }

@@ -14,6 +14,7 @@ mod drawing;
 mod faults;
 mod picture_texts;
 mod pictures;
+mod projections;
 #[cfg(test)]
 mod tests;
 mod texts;

@@ -41,7 +41,7 @@ fn draw_all<T: PixelSink>(drawing: &Drawing, tris: &[Tri], to: &mut T)
     }
 }
 
-/// Draws a triangle where all its corners have a spot.
+/// Draws a triangle where all its corners have a spot. One that can't cover a centre isn't projected.
 fn draw_tri<T: PixelSink>(drawing: &Drawing, number: u32, tri: Tri, to: &mut T)
     requires picture { IsPicture drawing.now.size }
     requires source { IsSourceTriangle tri }
@@ -53,14 +53,22 @@ fn draw_tri<T: PixelSink>(drawing: &Drawing, number: u32, tri: Tri, to: &mut T)
         (record { cluster = number / 128; place = number % 128; tri = tri })) }
 {
     let Drawing { size, camera } = *drawing;
-    let Some(a) = camera.screen(size, tri.a) else {
+    let Some(a) = camera.turn(tri.a) else {
         return;
     };
-    let Some(b) = camera.screen(size, tri.b) else {
+    let Some(b) = camera.turn(tri.b) else {
         return;
     };
-    let Some(c) = camera.screen(size, tri.c) else {
+    let Some(c) = camera.turn(tri.c) else {
         return;
     };
+    if camera.misses(size, a, b, c) {
+        return;
+    }
+    let (a, b, c) = (
+        camera.spot(size, a),
+        camera.spot(size, b),
+        camera.spot(size, c),
+    );
     for_each_word(a, b, c, number / CLUSTER, number % CLUSTER, size, to);
 }

@@ -1,7 +1,7 @@
 use Rattle.std.proofs.Common.{w64, refl}
 use Rattle.std.proofs.lemmas.Int.{to_z-of_z}
 use Rattle.geom_core.specs.Camera.{reversed_depth}
-use Rattle.geode_tool.proofs.cameras.reversed_depth.Goals as goal
+use Rattle.geode_tool.proofs.projections.reversed_depth.Goals as goal
 
 pub returns-clause-value : goal.returns-clause-value
 unfolding reversed_depth

@@ -1,0 +1,18 @@
+use Rattle.std.proofs.Common.{◌≡◌, ◌*◌, ℤ, pos, ◌-ℤ◌, ◌*ℤ◌, unsigned_abs, to_z, of_z, w64, arith}
+use Rattle.std.proofs.lemmas.Int.{ints}
+use Rattle.geode_tool.proofs.OnScreen.{behind_test, last_centre}
+use Rattle.geode_tool.proofs.projections.is_behind.Goals as goal
+
+pub returns : goal.returns
+returns c = λ is k within.
+    let at = c.args.at in
+    let distance = last_centre c.args.side c.from.result c.from.ensures c.requires.side in
+    behind_test c.args.focal c.args.side k at.offset at.depth _ c.scaled.result c.times.result within (record {
+      offset_bound = c.requires.aim.offset;
+      depth_bound = c.requires.aim.depth;
+      far = c.requires.aim.far;
+      n_is = c.scaled.ensures.value;
+      n_bound = c.scaled.ensures.bound;
+      m_is = c.times.ensures;
+      distance_bound = omega (arith, ints, distance);
+    }) distance is
