@@ -296,8 +296,8 @@ mod tests {
     }
 
     fn screen(camera: &Camera, size: Size, p: Pt) -> Option<Spot>
-        requires { IsPicture size }
-        requires { IsWithin (2 ^ 20) p }
+        requires picture { IsPicture size }
+        requires on_grid { IsWithin (2 ^ 20) p }
     {
         let at = camera.turn(p)?;
         Some(camera.spot(size, at))

@@ -5,6 +5,7 @@ use geom_core::Memory;
 use obj_source::ObjWhy;
 use span_io::{MemorySink, MemorySource};
 use std::alloc::Global;
+use std::process::Abort;
 use std::test::Fail;
 
 /// From depth 4,096 above the plane, looking down.
@@ -20,6 +21,14 @@ const SQUARE: &str = "v -1 0 1\nv 1 0 1\nv 1 0 -1\nv -1 0 -1\nf 1 2 3\nf 1 3 4\n
 const SLANTED: &str = "v -1 0 1\nv 1 0 1\nv 1 1 -1\nf 1 2 3\n";
 
 const CORNERS: &str = "v -1 0 1\nv 1 0 1\nv 1 0 -1\n";
+
+const BACKWARDS: &str = "v -1 0 1\nv 1 0 1\nv 1 0 -1\nf 1 2 -1\n";
+
+const SLASHED: &str = "v -1 0 1\nv 1 0 1\nv 1 0 -1\nf\t1//7  2/ 3/x # a face\n";
+
+const UNENDED: &str = "v -1 0 1\nv 1 0 1\nv 1 0 -1\nf 1 2 3";
+
+const EQUAL_POINTS: &str = "v 0 0 0\nv 0.0001 0 0\nv 1 0 0\nf 1 2 3\n";
 
 const EXPORT: &str = "# Blender\nmtllib plane.mtl\no Plane\nv -1.000000 0.000000 1.000000\n\
     v 1.000000 0.000000 1.000000\nv -1.000000 0.000000 -1.000000\n\
@@ -124,7 +133,7 @@ fn with_returns(alloc: Global, text: &str) -> Result<String, Memory> {
     Ok(longer)
 }
 
-/// The corners of a triangle, and behind them a line.
+/// The corners of a triangle, and a line behind them.
 fn with_line(alloc: Global, line: &str) -> Result<String, Memory> {
     Ok(format!(in alloc; "{CORNERS}{line}\n")?)
 }
@@ -138,32 +147,45 @@ fn with_pairs(alloc: Global, pairs: u32) -> Result<String, Memory> {
     Ok(text)
 }
 
+/// Draws a text in whole pieces and byte by byte, and compares the picture.
+fn assert_drawn(
+    rt: &impl Abort,
+    alloc: Global,
+    name: &str,
+    text: &str,
+    camera: &str,
+    pixels: &Pixels,
+) -> Result<(), Fail> {
+    for calls in [SOUND, SLOW] {
+        let outcome = run(alloc, &["draw", "4", "4", camera], text, calls)?;
+        assert_eq!(rt; outcome.answer, Ok(Done::Drawn), "{name}");
+        assert_eq!(rt; outcome.written, text_of(alloc, pixels)?, "{name}");
+    }
+    Ok(())
+}
+
 #[test]
 fn draws(rt: HostRuntime) -> Result<(), Fail> {
-    let alloc = rt.alloc();
-    let returns = with_returns(alloc, EXPORT)?;
-    let backwards = with_line(alloc, "f 1 2 -1")?;
-    let slashed = with_line(alloc, "f\t1//7  2/ 3/x # a face")?;
-    let unended = "v -1 0 1\nv 1 0 1\nv 1 0 -1\nf 1 2 3";
     let cases = [
         ("one triangle", TRIANGLE, ABOVE, ONE),
         ("two triangles that share an edge", SQUARE, ABOVE, TWO),
         ("a slanted triangle", SLANTED, ABOVE, DEEP),
         ("too near to be seen", TRIANGLE, FAR, DARK),
         ("an exported plane", EXPORT, ABOVE, TWO),
-        ("the same with CR and LF", returns.as_str(), ABOVE, TWO),
-        ("a corner named backwards", backwards.as_str(), ABOVE, ONE),
-        ("slashes, a tab and a comment", slashed.as_str(), ABOVE, ONE),
-        ("no last line feed", unended, ABOVE, ONE),
+        ("a corner named backwards", BACKWARDS, ABOVE, ONE),
+        ("slashes, tabs and a comment", SLASHED, ABOVE, ONE),
+        ("no last line feed", UNENDED, ABOVE, ONE),
     ];
     for (name, text, camera, pixels) in cases {
-        for calls in [SOUND, SLOW] {
-            let outcome = run(alloc, &["draw", "4", "4", camera], text, calls)?;
-            assert_eq!(rt; outcome.answer, Ok(Done::Drawn), "{name}");
-            assert_eq!(rt; outcome.written, text_of(alloc, &pixels)?, "{name}");
-        }
+        assert_drawn(&rt, rt.alloc(), name, text, camera, &pixels)?;
     }
     Ok(())
+}
+
+#[test]
+fn draws_lines_that_end_with_returns(rt: HostRuntime) -> Result<(), Fail> {
+    let text = with_returns(rt.alloc(), EXPORT)?;
+    assert_drawn(&rt, rt.alloc(), "an exported plane", &text, ABOVE, &TWO)
 }
 
 /// A fault of a line.
@@ -171,61 +193,56 @@ fn line(line: u32, why: ObjWhy) -> Fault {
     Fault::BadObj { line, why }
 }
 
+/// Draws a text in whole pieces and byte by byte, and compares the fault.
+fn assert_refused(
+    rt: &impl Abort,
+    alloc: Global,
+    name: &str,
+    text: &str,
+    fault: Fault,
+) -> Result<(), Fail> {
+    for calls in [SOUND, SLOW] {
+        let outcome = run(alloc, DRAW, text, calls)?;
+        assert_eq!(rt; outcome.answer, Err(fault), "{name}");
+        assert!(rt; outcome.written.is_empty(), "{name}");
+    }
+    Ok(())
+}
+
 #[test]
 fn the_first_fault_of_a_mesh_is_named(rt: HostRuntime) -> Result<(), Fail> {
-    let alloc = rt.alloc();
-    let vertex_0 = with_line(alloc, "f 1 2 0")?;
-    let vertex_4 = with_line(alloc, "f 1 2 4")?;
-    let two_corners = with_line(alloc, "f 1 2")?;
-    let no_number = with_line(alloc, "f 1 2 x")?;
-    let with_plus = with_line(alloc, "f 1 +2 3")?;
-    let repeated = with_line(alloc, "f 1 2 2")?;
-    let later = with_line(alloc, "f 1 2 3\nv 0 0 1025 # far\nf 1 2 x")?;
     let cases = [
         ("no bytes", "", Fault::Empty),
         ("vertices alone", CORNERS, Fault::Empty),
-        (
-            "points that are equal once rounded",
-            "v 0 0 0\nv 0.0001 0 0\nv 1 0 0\nf 1 2 3\n",
-            Fault::Empty,
-        ),
-        ("a repeated corner", repeated.as_str(), Fault::Empty),
-        (
-            "vertex 0",
-            vertex_0.as_str(),
-            line(4, ObjWhy::NoSuchVertex(3)),
-        ),
-        (
-            "vertex 4 of 3",
-            vertex_4.as_str(),
-            line(4, ObjWhy::NoSuchVertex(3)),
-        ),
-        (
-            "two corners",
-            two_corners.as_str(),
-            line(4, ObjWhy::ShortFace),
-        ),
-        (
-            "no number",
-            no_number.as_str(),
-            line(4, ObjWhy::BadCorner(3)),
-        ),
-        ("a plus", with_plus.as_str(), line(4, ObjWhy::BadCorner(2))),
+        ("equal once rounded", EQUAL_POINTS, Fault::Empty),
         ("no third number", "v 1 2", line(1, ObjWhy::BadNumber(3))),
         ("a word", "\nv 1 nan 2\n", line(2, ObjWhy::BadNumber(2))),
-        ("too far", later.as_str(), line(5, ObjWhy::OutOfRange(3))),
-        (
-            "a fault before Empty",
-            "v 0 0 0\nf 1 1\n",
-            line(2, ObjWhy::ShortFace),
-        ),
+        ("before Empty", "\t\nf 1 1\n", line(2, ObjWhy::ShortFace)),
     ];
     for (name, text, fault) in cases {
-        for calls in [SOUND, SLOW] {
-            let outcome = run(alloc, DRAW, text, calls)?;
-            assert_eq!(rt; outcome.answer, Err(fault), "{name}");
-            assert!(rt; outcome.written.is_empty(), "{name}");
-        }
+        assert_refused(&rt, rt.alloc(), name, text, fault)?;
+    }
+    Ok(())
+}
+
+#[test]
+fn the_first_fault_of_a_face_is_named(rt: HostRuntime) -> Result<(), Fail> {
+    let cases = [
+        ("a repeated corner", "f 1 2 2", Fault::Empty),
+        ("vertex 0", "f 1 2 0", line(4, ObjWhy::NoSuchVertex(3))),
+        ("vertex 4 of 3", "f 1 2 4", line(4, ObjWhy::NoSuchVertex(3))),
+        ("two corners", "f 1 2", line(4, ObjWhy::ShortFace)),
+        ("no number", "f 1 2 x", line(4, ObjWhy::BadCorner(3))),
+        ("a plus", "f 1 +2 x", line(4, ObjWhy::BadCorner(2))),
+        (
+            "a vertex too far, behind a face",
+            "f 1 2 3\nv 0 0 1025 # far\nf 1 2 x",
+            line(5, ObjWhy::OutOfRange(3)),
+        ),
+    ];
+    for (name, face, fault) in cases {
+        let text = with_line(rt.alloc(), face)?;
+        assert_refused(&rt, rt.alloc(), name, &text, fault)?;
     }
     Ok(())
 }
@@ -271,21 +288,26 @@ fn wrong_words_are_refused(rt: HostRuntime) -> Result<(), Fail> {
     Ok(())
 }
 
+/// Compares what is printed of a fault.
+fn assert_shown(
+    rt: &impl Abort,
+    alloc: Global,
+    fault: Fault,
+    status: u8,
+    want: &str,
+) -> Result<(), Fail> {
+    assert_eq!(rt; fault.status(), status, "{want}");
+    let shown = format!(in alloc; "{fault}")?;
+    assert_eq!(rt; shown.as_str(), want);
+    Ok(())
+}
+
 #[test]
 fn shows_faults(rt: HostRuntime) -> Result<(), Fail> {
     let cases = [
         (Fault::Usage(UsageKind::Line), 3, "usage: line"),
         (Fault::ReadFault, 4, "input could not be read"),
         (Fault::TooLong, 9, "input too long"),
-        (
-            line(4, ObjWhy::NoSuchVertex(3)),
-            6,
-            "line 4: no such vertex 3",
-        ),
-        (line(1, ObjWhy::BadNumber(3)), 6, "line 1: bad number 3"),
-        (line(7, ObjWhy::OutOfRange(1)), 6, "line 7: out of range 1"),
-        (line(4, ObjWhy::BadCorner(2)), 6, "line 4: bad corner 2"),
-        (line(9, ObjWhy::ShortFace), 6, "line 9: short face"),
         (Fault::TooMany, 8, "more than 1048576 triangles"),
         (Fault::Empty, 7, "no triangle"),
         (Fault::BadJournal { line: 7 }, 11, "journal line 7"),
@@ -293,10 +315,23 @@ fn shows_faults(rt: HostRuntime) -> Result<(), Fail> {
         (Fault::WriteFault, 5, "output could not be written"),
         (Fault::Memory, 2, "out of memory"),
     ];
-    for (fault, status, line) in cases {
-        assert_eq!(rt; fault.status(), status, "{line}");
-        let shown = format!(in rt.alloc(); "{fault}")?;
-        assert_eq!(rt; shown.as_str(), line);
+    for (fault, status, want) in cases {
+        assert_shown(&rt, rt.alloc(), fault, status, want)?;
+    }
+    Ok(())
+}
+
+#[test]
+fn shows_faults_of_lines(rt: HostRuntime) -> Result<(), Fail> {
+    let cases = [
+        (ObjWhy::BadNumber(3), "line 4: bad number 3"),
+        (ObjWhy::OutOfRange(1), "line 4: out of range 1"),
+        (ObjWhy::BadCorner(2), "line 4: bad corner 2"),
+        (ObjWhy::NoSuchVertex(3), "line 4: no such vertex 3"),
+        (ObjWhy::ShortFace, "line 4: short face"),
+    ];
+    for (why, want) in cases {
+        assert_shown(&rt, rt.alloc(), line(4, why), 6, want)?;
     }
     Ok(())
 }
