@@ -91,6 +91,19 @@ edge_sum-degenerate a c u v =
         pos ((if av && au then 1 else 0) + (if av && cu then 1 else 0) + (if cv && au then 1 else 0)) ≡ pos 0
     cancels au av cu cv = rw (and_turned av au, and_turned av cu, and_turned cv au) (omega (arith, ints))
 
+-- the same, whichever two corners they are
+pub edge_sum-equal_ab : (t : Tri) (u v : Pt) → t.a ≡ t.b → edge_sum (t ∷ []) u v ≡ pos 0
+edge_sum-equal_ab t u v same =
+    ap (λ p. edge_sum (record t { b = p } ∷ []) u v) (sym same) ∙ edge_sum-degenerate t.a t.c u v
+
+pub edge_sum-equal_bc : (t : Tri) (u v : Pt) → t.b ≡ t.c → edge_sum (t ∷ []) u v ≡ pos 0
+edge_sum-equal_bc t u v same =
+    sym (edge_sum-rotated t.a t.b t.c u v) ∙ edge_sum-equal_ab (record { a = t.b; b = t.c; c = t.a }) u v same
+
+pub edge_sum-equal_ca : (t : Tri) (u v : Pt) → t.c ≡ t.a → edge_sum (t ∷ []) u v ≡ pos 0
+edge_sum-equal_ca t u v same =
+    sym (edge_sum-rotated t.a t.b t.c u v) ∙ edge_sum-equal_bc (record { a = t.b; b = t.c; c = t.a }) u v same
+
 -- the order of the triangles doesn't matter
 sum_by-first : (f : Tri → ℕ) (t : Tri) (tris : List Tri) → sum_by f (t ∷ tris) ≡ f t + sum_by f tris
 sum_by-first f t tris = let split = sum_by-append f (t ∷ []) tris in omega arith

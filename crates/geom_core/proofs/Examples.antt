@@ -1,5 +1,5 @@
 -- Worked examples of the definitions, computed by the checker.
-use Rattle.std.specs.Prelude.{◌≡◌, ℕ, ◌∷◌, [], List, Some, None, ℤ, pos, negsuc, true, false, filter, refl}
+use Rattle.std.specs.Prelude.{◌≡◌, ℕ, ◌∷◌, [], List, Some, None, ℤ, pos, negsuc, true, false, filter, flat_map, ◌++◌, refl}
 use Rattle.geom_core.specs.declared.points.Pt.{Pt}
 use Rattle.geom_core.specs.declared.triangles.Tri.{Tri}
 use Rattle.geom_core.specs.declared.screens.Spot.{Spot}
@@ -177,6 +177,51 @@ edge_sum-along = refl
 pub edge_sum-against : edge_sum square corner_b corner_a ≡ negsuc 0
 unfolding edge_sum edge_count edges_of same_point
 edge_sum-against = refl
+
+-- two triangles that run along a shared side the same way: it doesn't cancel
+abbrev same_way : List Tri
+same_way = record { a = corner_a; b = corner_b; c = middle } ∷ record { a = corner_a; b = corner_b; c = corner_d } ∷ []
+
+pub edge_sum-same_way : edge_sum same_way corner_a corner_b ≡ pos 2
+unfolding edge_sum edge_count edges_of same_point
+edge_sum-same_way = refl
+
+pub edge_sum-same_way_back : edge_sum same_way corner_b corner_a ≡ negsuc 1
+unfolding edge_sum edge_count edges_of same_point
+edge_sum-same_way_back = refl
+
+-- a triangle twice: each side counts twice, and all three are on the rim
+abbrev doubled : List Tri
+doubled = fan corner_a corner_b ∷ fan corner_a corner_b ∷ []
+
+pub edge_sum-doubled : edge_sum doubled middle corner_a ≡ pos 2
+unfolding edge_sum edge_count edges_of same_point
+edge_sum-doubled = refl
+
+pub rim-doubled : filter (λ e. is_rim_edge doubled e.0 e.1) pairs ≡
+    (corner_a, corner_b) ∷ (corner_a, middle) ∷ (corner_b, middle) ∷ []
+unfolding is_rim_edge edge_sum edge_count edges_of same_point
+rim-doubled = refl
+
+-- a closed box of twelve triangles, seen from outside: every edge cancels
+abbrev box_corner : ℕ → ℕ → ℕ → Pt
+box_corner x y z = point (pos x) (pos y) (pos z)
+
+abbrev faces : Pt → Pt → Pt → Pt → List Tri
+faces p q r s = record { a = p; b = q; c = r } ∷ record { a = p; b = r; c = s } ∷ []
+
+abbrev closed_box : List Tri
+closed_box =
+    faces (box_corner 0 0 0) (box_corner 0 0 1) (box_corner 0 1 1) (box_corner 0 1 0) ++
+    faces (box_corner 1 0 0) (box_corner 1 1 0) (box_corner 1 1 1) (box_corner 1 0 1) ++
+    faces (box_corner 0 0 0) (box_corner 1 0 0) (box_corner 1 0 1) (box_corner 0 0 1) ++
+    faces (box_corner 0 1 0) (box_corner 0 1 1) (box_corner 1 1 1) (box_corner 1 1 0) ++
+    faces (box_corner 0 0 0) (box_corner 0 1 0) (box_corner 1 1 0) (box_corner 1 0 0) ++
+    faces (box_corner 0 0 1) (box_corner 1 0 1) (box_corner 1 1 1) (box_corner 0 1 1)
+
+pub rim-closed_box : filter (λ e. is_rim_edge closed_box e.0 e.1) (flat_map edges_of closed_box) ≡ []
+unfolding is_rim_edge edge_sum edge_count edges_of same_point
+rim-closed_box = refl
 
 -- x decides before y and z, then y, then z
 pub point_cmp-by_x : point_cmp (point (pos 1) (negsuc 8) (negsuc 8)) (point (pos 0) (pos 9) (pos 9)) ≡ Greater

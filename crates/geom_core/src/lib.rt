@@ -7,6 +7,7 @@
 
 mod boxes;
 mod digests;
+pub mod laws;
 mod lists;
 mod points;
 mod screens;
