@@ -1,5 +1,5 @@
 -- A triangle whose corners are all on one side of a picture's centres draws nothing.
-use Rattle.std.specs.Prelude.{◌≡◌, ◌<◌, ◌+◌, ◌*◌, ◌/◌, ◌%◌, ◌⊎◌, ℕ, zero, suc, pos, Bool, false, not, List, [], map, filter, refl}
+use Rattle.std.specs.Prelude.{◌≡◌, ◌<◌, ◌+◌, ◌*◌, ◌/◌, ◌%◌, ℕ, zero, suc, pos, Bool, false, not, [], map, filter, refl}
 use Rattle.std.proofs.Common.{inl, inr, ap, ◌∙◌, zero-add, arith}
 use Rattle.std.proofs.Math.Nat.{mul_comm, div-lt_iff_lt-mul}
 use Rattle.std.specs.List.{range_with_len}

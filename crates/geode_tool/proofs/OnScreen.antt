@@ -1,7 +1,7 @@
 -- Where an offset is seen: what the code's products and its quotient give, and which tests of products tell
 -- on which side of a picture's centres it is.
 use Rattle.std.specs.Prelude.{◌≡◌, ◌+◌, ◌*◌, ◌<◌, ◌≤◌, ◌≤ℤ◌, ◌<ℤ◌, ℕ, ℤ, pos, ◌+ℤ◌, ◌-ℤ◌, ◌*ℤ◌, unsigned_abs, int_lt, int_le, true, FitsSigned, refl}
-use Rattle.std.proofs.Common.{arith, ap, sym, ◌∙◌, to_z, of_z, w64, lit<}
+use Rattle.std.proofs.Common.{arith, ap, ◌∙◌, to_z, of_z, w64, lit<}
 use Rattle.std.proofs.lemmas.Int.{ints, to_z-of_z}
 use Rattle.geom_core.specs.Camera.{on_screen}
 use Rattle.geom_core.specs.Floor.{floor_div}

@@ -1,6 +1,6 @@
 -- The spot of a point, from what the camera's steps give.
 use Rattle.std.specs.Prelude.{◌≡◌, ◌+◌, ◌*◌, ◌≤◌, ◌^◌, ℕ, ℤ, pos, ◌+ℤ◌, unsigned_abs, int_lt, Bool, true, false, Some, None, refl}
-use Rattle.std.proofs.Common.{arith, sym, ◌∙◌, to_z, of_z, w64, lit<}
+use Rattle.std.proofs.Common.{arith, ◌∙◌, to_z, of_z, w64, lit<}
 use Rattle.std.proofs.lemmas.Int.{ints, to_z_pos}
 use Rattle.geom_core.specs.declared.points.Pt.{Pt}
 use Rattle.geom_core.specs.declared.screens.Size.{Size}

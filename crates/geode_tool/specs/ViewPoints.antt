@@ -1,5 +1,5 @@
 -- Points in a camera's own axes, and where each is seen.
-use Rattle.std.specs.Prelude.{◌≤◌, ◌*◌, ℕ, pos, ◌+ℤ◌, ◌≤ℤ◌, unsigned_abs}
+use Rattle.std.specs.Prelude.{◌≤◌, ◌*◌, pos, ◌+ℤ◌, ◌≤ℤ◌, unsigned_abs}
 use Rattle.geom_core.specs.declared.screens.Spot.{Spot}
 use Rattle.geom_core.specs.declared.screens.Size.{Size}
 use Rattle.geom_core.specs.Camera.{View, on_screen, reversed_depth}

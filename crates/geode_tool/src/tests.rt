@@ -171,10 +171,6 @@ fn draws(rt: HostRuntime) -> Result<(), Fail> {
         ("two triangles that share an edge", SQUARE, ABOVE, TWO),
         ("a slanted triangle", SLANTED, ABOVE, DEEP),
         ("too near to be seen", TRIANGLE, FAR, DARK),
-        ("an exported plane", EXPORT, ABOVE, TWO),
-        ("a corner named backwards", BACKWARDS, ABOVE, ONE),
-        ("slashes, tabs and a comment", SLASHED, ABOVE, ONE),
-        ("no last line feed", UNENDED, ABOVE, ONE),
     ];
     for (name, text, camera, pixels) in cases {
         assert_drawn(&rt, rt.alloc(), name, text, camera, &pixels)?;
@@ -183,9 +179,27 @@ fn draws(rt: HostRuntime) -> Result<(), Fail> {
 }
 
 #[test]
-fn draws_lines_that_end_with_returns(rt: HostRuntime) -> Result<(), Fail> {
+fn draws_other_forms(rt: HostRuntime) -> Result<(), Fail> {
+    let cases = [
+        ("a corner named backwards", BACKWARDS),
+        ("slashes, tabs and a comment", SLASHED),
+        ("no last line feed", UNENDED),
+    ];
+    for (name, text) in cases {
+        assert_drawn(&rt, rt.alloc(), name, text, ABOVE, &ONE)?;
+    }
+    Ok(())
+}
+
+#[test]
+fn draws_an_export(rt: HostRuntime) -> Result<(), Fail> {
+    assert_drawn(&rt, rt.alloc(), "line feeds", EXPORT, ABOVE, &TWO)
+}
+
+#[test]
+fn draws_an_export_with_returns(rt: HostRuntime) -> Result<(), Fail> {
     let text = with_returns(rt.alloc(), EXPORT)?;
-    assert_drawn(&rt, rt.alloc(), "an exported plane", &text, ABOVE, &TWO)
+    assert_drawn(&rt, rt.alloc(), "returns", &text, ABOVE, &TWO)
 }
 
 /// A fault of a line.

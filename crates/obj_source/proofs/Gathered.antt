@@ -1,10 +1,7 @@
 -- Bytes that were taken from the front of a source, piece by piece.
 use Rattle.std.proofs.Common.{◌≡◌, ℕ, ◌+◌, ◌-◌, ◌<◌, ◌≤◌, min, List, [], ◌++◌, length, take, drop, Option, Some, None, option_map, Result, Ok, Err, refl, ap, sym, subst, inl, inr, ◌∙◌, append_assoc, length-append, arith}
-use Rattle.std.specs.Option.{IfSome}
-use Rattle.std.specs.Result.{MatchResult, IfOk, IfErr, OnOk}
 use Rattle.std.proofs.lemmas.List.{append-nil, take_all, take-take, take-append-drop, drop_at, length-take}
 use Rattle.std.proofs.lemmas.Bool.{cases_lt}
-use Rattle.std.proofs.Math.Seq.{take-append-add}
 use Rattle.geom_core.specs.declared.triangles.Tri.{Tri}
 use Rattle.span_io.specs.Reads.{GotBytes, GotEnd}
 use Rattle.obj_source.specs.declared.faults.ObjFault.{ObjFault}

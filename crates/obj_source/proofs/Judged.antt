@@ -1,5 +1,5 @@
 -- What the end of a line came to.
-use Rattle.std.proofs.Common.{◌≡◌, ◌≢◌, ℕ, ◌+◌, List, [], Result, Ok, Err, refl, ap, sym, subst, inl, inr, ◌⊎◌, ◌∙◌}
+use Rattle.std.proofs.Common.{◌≡◌, ◌≢◌, ℕ, ◌+◌, List, [], Ok, Err, ap, sym, inl, inr, ◌∙◌}
 use Rattle.obj_source.specs.declared.drafts.Draft.{Draft}
 use Rattle.obj_source.specs.declared.faults.ObjFault.{ObjFault}
 use Rattle.obj_source.specs.declared.faults.ObjFault.TheVariants.{Line, TooMany, TooLong, Empty, Read, Memory}
@@ -7,7 +7,7 @@ use Rattle.obj_source.specs.declared.faults.ObjWhy.{ObjWhy}
 use Rattle.obj_source.specs.Drafts.{so_far, Stands}
 use Rattle.obj_source.specs.Mesh.{Said, with_line}
 use Rattle.obj_source.specs.Tokens.{StandsOn, LineJudged, OnLineFault}
-use Rattle.obj_source.proofs.LinesInTurn.{with_line-fault, IsLineFault}
+use Rattle.obj_source.proofs.LinesInTurn.{with_line-fault}
 
 pub LineJudged-from : (before draft : Draft) (scale : ℕ) (said : Said) (line : ℕ) (words : List (List ℕ)) → StandsOn before scale said line words → draft.scale ≡ before.scale → (with_line before.scale said line words ≡ Ok (so_far draft)) × Stands draft (so_far draft) (line + 1) [] → LineJudged draft scale said line words
 LineJudged-from before draft scale said line words stands same judged = record {

@@ -1,6 +1,5 @@
 -- What a draft stands for, when the open line has some bytes more.
-use Rattle.std.proofs.Common.{◌≡◌, ◌≢◌, ℕ, ◌+◌, ◌<◌, ◌≤◌, Bool, true, false, ◌||◌, eqb, List, [], ◌∷◌, ◌++◌, length, refl, ap, sym, subst, inl, inr, ◌∙◌, append_assoc, length-append, arith}
-use Rattle.std.specs.List.{All}
+use Rattle.std.proofs.Common.{◌≡◌, ◌≢◌, ℕ, ◌+◌, ◌≤◌, true, false, List, [], ◌∷◌, ◌++◌, length, refl, ap, sym, subst, ◌∙◌, append_assoc, length-append, arith}
 use Rattle.std.proofs.lemmas.List.{append-nil}
 use Rattle.std.proofs.lemmas.List.Elements.{All-nil, All-append}
 use Rattle.obj_source.specs.declared.drafts.Draft.{Draft}
@@ -9,7 +8,7 @@ use Rattle.obj_source.specs.declared.tokens.Part.TheVariants.{First, Later, Pass
 use Rattle.obj_source.specs.Lines.{is_blank, words_of, without_return}
 use Rattle.obj_source.specs.Mesh.{Said}
 use Rattle.obj_source.specs.Tokens.{parts_words, kept, WordsRead, StandsOn, StandsAt, LineRead}
-use Rattle.obj_source.proofs.LineWords.{IsInside, kept-some, kept-none, words_of-blank, words_of-hash, words_of-last, words_of-long, HasLongFirst}
+use Rattle.obj_source.proofs.LineWords.{IsInside, kept-some, kept-none, words_of-blank, words_of-hash, words_of-last, words_of-long}
 
 pub WordsRead-nil : WordsRead [] [] []
 WordsRead-nil = record { inside = All-nil (λ b. parts_words b ≡ false); go_on = λ rest. refl }

@@ -1,13 +1,13 @@
 -- The words of a line, when a byte or a span of bytes more stands at its front.
-use Rattle.std.proofs.Common.{◌≡◌, ◌≢◌, ℕ, zero, suc, ◌+◌, ◌-◌, ◌<◌, ◌≤◌, Bool, true, false, not, cond, ◌||◌, eqb, List, [], ◌∷◌, ◌++◌, length, take, get_or, refl, ap, sym, subst, ◌∙◌, append_assoc, length-append, arith, one-add}
-use Rattle.std.specs.List.{All, filter, slice_split, before_first, prefix_len}
+use Rattle.std.proofs.Common.{◌≡◌, ◌≢◌, ℕ, zero, suc, ◌+◌, ◌≤◌, Bool, true, false, cond, ◌||◌, List, [], ◌∷◌, ◌++◌, length, take, get_or, refl, ap, sym, subst, ◌∙◌, append_assoc, length-append, arith, one-add}
+use Rattle.std.specs.List.{All, filter, slice_split, before_first}
 use Rattle.std.proofs.lemmas.List.{append-nil}
-use Rattle.std.proofs.lemmas.List.Elements.{All-head, All-tail, All-append, All-cons, All-nil, All-push}
+use Rattle.std.proofs.lemmas.List.Elements.{All-head, All-tail, All-cons, All-nil, All-push}
 use Rattle.std.proofs.lemmas.List.Splits.{slice_split_none, slice_split_at}
 use Rattle.std.proofs.lemmas.Grind.{common_steps}
 use Rattle.std.proofs.lemmas.Bool.Decides.{nat_tests}
 use Rattle.std.proofs.lemmas.Bool.{eqb-true, eq-eqb}
-use Rattle.obj_source.specs.Lines.{is_line_feed, is_hash, is_return, is_blank, without_return, before_comment, is_word, words_of}
+use Rattle.obj_source.specs.Lines.{is_hash, is_return, is_blank, without_return, before_comment, is_word, words_of}
 use Rattle.obj_source.specs.Tokens.{parts_words, kept}
 
 abbrev pub IsInside : List ℕ → Type 0

@@ -1,5 +1,5 @@
 -- A piece of a text, taken in from mark to mark.
-use Rattle.std.proofs.Common.{◌≡◌, ℕ, ◌+◌, ◌-◌, ◌<◌, ◌≤◌, Bool, true, false, cond, ltb, ◌||◌, List, [], ◌∷◌, ◌++◌, length, take, drop, get_or, Option, Some, None, refl, ap, sym, subst, ◌∙◌, append_assoc, length-append, arith}
+use Rattle.std.proofs.Common.{◌≡◌, ℕ, ◌+◌, ◌-◌, ◌<◌, ◌≤◌, Bool, true, false, cond, ltb, List, [], ◌∷◌, ◌++◌, length, take, drop, get_or, Some, None, refl, ap, sym, subst, ◌∙◌, append_assoc, length-append, arith}
 use Rattle.std.specs.List.{All, position, position_or_len}
 use Rattle.std.proofs.lemmas.List.{append-nil, take-append-drop, drop_more, length-take, get_or-take, take_rest}
 use Rattle.std.proofs.lemmas.List.Quantifiers.{position-Some}
@@ -10,7 +10,6 @@ use Rattle.obj_source.specs.declared.faults.ObjFault.{ObjFault}
 use Rattle.obj_source.specs.declared.tokens.Part.{Part}
 use Rattle.obj_source.specs.declared.tokens.Part.TheVariants.{First, Later, Passed}
 use Rattle.obj_source.specs.declared.tokens.Tokens.{Tokens}
-use Rattle.obj_source.specs.Mesh.{longest}
 use Rattle.obj_source.specs.Tokens.{ends_word, ends_part, HasTaken, HasRoom, IsFirstFault, OnLineFault}
 use Rattle.obj_source.proofs.TakenBytes.{OnLineFault-weaker}
 use Rattle.obj_source.proofs.TextLines.{IsFirstFault-more}

@@ -1,11 +1,10 @@
 -- The CR at the end of a word, found by its last byte.
-use Rattle.std.proofs.Common.{◌≡◌, ◌≢◌, ℕ, suc, ◌-◌, ◌≤◌, ◌<◌, Bool, true, false, eqb, List, [], ◌∷◌, length, take, get_or, Option, Some, None, arith, ap, sym, ◌∙◌, refl, subst}
+use Rattle.std.proofs.Common.{◌≡◌, ◌≢◌, ℕ, ◌-◌, Bool, true, false, eqb, List, [], ◌∷◌, length, take, get_or, Option, Some, None, arith, ap, sym, ◌∙◌, refl}
 use Rattle.std.specs.Option.{option_eq, option_copied}
 use Rattle.std.specs.List.{slice_get}
 use Rattle.std.proofs.lemmas.Option.{get_or_from_slice_get, slice_get-get_or}
 use Rattle.std.proofs.lemmas.Bool.{eqb-true}
 use Rattle.std.proofs.lemmas.Bool.Decides.{nat_tests}
-use Rattle.std.proofs.lemmas.Grind.{common_steps}
 use denote.Bor.{Bor}
 use Rattle.obj_source.specs.Lines.{without_return}
 use Rattle.obj_source.proofs.LineWords.{without_return-yes, without_return-no}

@@ -1,9 +1,8 @@
 -- The bytes of a text that were taken in, and some more.
-use Rattle.std.proofs.Common.{◌≡◌, ◌≢◌, ℕ, ◌+◌, ◌<◌, ◌≤◌, Bool, true, false, eqb, ◌||◌, List, [], ◌∷◌, ◌++◌, length, get_or, Result, Ok, Err, refl, ap, sym, subst, ◌∙◌, append_assoc, length-append, arith}
+use Rattle.std.proofs.Common.{◌≡◌, ◌≢◌, ℕ, ◌+◌, ◌≤◌, true, false, eqb, List, [], ◌∷◌, ◌++◌, length, get_or, Result, Ok, Err, refl, ap, sym, subst, ◌∙◌, length-append, arith}
 use Rattle.std.specs.List.{All}
 use Rattle.std.specs.Result.{MatchResult, OnOk, IfErr}
-use Rattle.std.proofs.lemmas.List.{append-nil}
-use Rattle.std.proofs.lemmas.List.Elements.{All-nil, All-cons, All-append}
+use Rattle.std.proofs.lemmas.List.Elements.{All-nil, All-cons}
 use Rattle.std.proofs.lemmas.Grind.{common_steps}
 use Rattle.std.proofs.lemmas.Bool.Decides.{nat_tests}
 use Rattle.obj_source.specs.declared.drafts.Draft.{Draft}
@@ -15,7 +14,7 @@ use Rattle.obj_source.specs.declared.tokens.Tokens.{Tokens}
 use Rattle.obj_source.specs.Drafts.{so_far}
 use Rattle.obj_source.specs.Lines.{is_blank, is_line_feed, words_of}
 use Rattle.obj_source.specs.Mesh.{Said, longest, mesh, some_triangles, with_line, ◌>>=◌}
-use Rattle.obj_source.specs.Tokens.{parts_words, ends_word, ends_part, kept, WordsRead, StandsOn, StandsAt, LineRead, LineJudged, IsReady, HasTaken, IsFirstFault, OnLineFault, RefusedAtEnd}
+use Rattle.obj_source.specs.Tokens.{parts_words, ends_word, ends_part, kept, StandsOn, StandsAt, LineRead, LineJudged, IsReady, HasTaken, IsFirstFault, OnLineFault, RefusedAtEnd}
 use Rattle.obj_source.proofs.LineSteps.{LineRead-cases, LineRead-blank, LineRead-hash, LineRead-passed, LineRead-span, LineRead-long, WordsRead-nil}
 use Rattle.obj_source.proofs.LineWords.{IsInside, or-left, or-right}
 use Rattle.obj_source.proofs.TextLines.{IsOneLine, LinesRead-span, LinesRead-feed, IsFirstFault-feed, mesh-last}

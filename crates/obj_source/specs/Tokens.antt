@@ -1,10 +1,9 @@
 -- What the bytes of a text so far came to.
-use Rattle.std.specs.Prelude.{◌≡◌, ◌≤◌, ◌^◌, ◌+◌, Bool, false, ◌||◌, ℕ, List, [], ◌∷◌, ◌++◌, length, Result, Ok, Err}
+use Rattle.std.specs.Prelude.{◌≡◌, ◌≤◌, ◌^◌, ◌+◌, Bool, false, ◌||◌, ℕ, List, [], ◌∷◌, ◌++◌, length, Ok, Err}
 use Rattle.std.specs.List.{All, filter}
-use Rattle.geom_core.specs.declared.triangles.Tri.{Tri}
 use Rattle.obj_source.specs.declared.drafts.Draft.{Draft}
 use Rattle.obj_source.specs.declared.faults.ObjFault.{ObjFault}
-use Rattle.obj_source.specs.declared.faults.ObjFault.TheVariants.{Line, TooMany, TooLong, Empty, Read, Memory}
+use Rattle.obj_source.specs.declared.faults.ObjFault.TheVariants.{Line, TooMany, Empty, Memory}
 use Rattle.obj_source.specs.declared.tokens.Part.{Part}
 use Rattle.obj_source.specs.declared.tokens.Part.TheVariants.{First, Later, Passed}
 use Rattle.obj_source.specs.declared.tokens.Tokens.{Tokens}
@@ -17,7 +16,7 @@ use Rattle.obj_source.specs.Mesh.{Said, nothing, with_line, read_lines, ended_li
 abbrev pub parts_words : ℕ → Bool
 parts_words b = is_blank b || is_hash b
 
--- a byte behind which a word has ended
+-- a byte before which a word has ended
 abbrev pub ends_word : ℕ → Bool
 ends_word b = parts_words b || is_line_feed b
 

@@ -58,7 +58,8 @@ impl Tokens {
         ensures taken { OnOk result ((scale : ℕ) (text : List ℕ) → HasTaken self.old scale text →
             HasTaken self.new scale (text ++ piece.now)) }
         ensures refused { IfErr result (λ fault. (scale : ℕ) (text : List ℕ) →
-            HasTaken self.old scale text → OnLineFault (IsFirstFault scale (text ++ piece.now)) fault) }
+            HasTaken self.old scale text →
+            OnLineFault (IsFirstFault scale (text ++ piece.now)) fault) }
     {
         let mut rest = piece;
         'marks: while let Some(at) = self.next_mark(rest) {
@@ -116,7 +117,8 @@ impl Tokens {
         ensures taken { OnOk result ((scale : ℕ) (text : List ℕ) → HasTaken self.old scale text →
             HasTaken self.new scale (text ++ mark ∷ [])) }
         ensures refused { IfErr result (λ fault. (scale : ℕ) (text : List ℕ) →
-            HasTaken self.old scale text → OnLineFault (IsFirstFault scale (text ++ mark ∷ [])) fault) }
+            HasTaken self.old scale text →
+            OnLineFault (IsFirstFault scale (text ++ mark ∷ [])) fault) }
     {
         match mark {
             b'\n' => self.end_line(),

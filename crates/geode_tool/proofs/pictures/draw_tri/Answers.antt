@@ -1,5 +1,4 @@
 use Rattle.std.proofs.Common.{ℕ, List, ◌++◌, subst, sym}
-use Rattle.geode_tool.specs.ViewPoints.{spot_at}
 use Rattle.geode_tool.proofs.DrawnItems.{item_at, drawn-seen, drawn-first_hidden, drawn-second_hidden, drawn-third_hidden, drawn-missed}
 use Rattle.geode_tool.proofs.pictures.draw_tri.Goals as goal
 

@@ -1,4 +1,3 @@
-use Rattle.geode_tool.specs.CameraFields.{view_of}
 use Rattle.geode_tool.specs.ViewPoints.{spot_at}
 use Rattle.geode_tool.proofs.Missed.{words_of-beside, words_of-over}
 use Rattle.geode_tool.proofs.cameras.Camera.misses.Goals as goal
