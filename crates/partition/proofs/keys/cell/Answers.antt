@@ -1,0 +1,8 @@
+use Rattle.std.proofs.Common.{arith}
+use Rattle.std.proofs.lemmas.Int.{ints, to_z-of_z}
+use Rattle.partition.specs.Morton.{cell_of}
+use Rattle.partition.proofs.keys.cell.Goals as goal
+
+pub returns-clause-value : goal.returns-clause-value
+unfolding cell_of
+returns-clause-value c = grind (arith, ints, to_z-of_z)
