@@ -1,0 +1,78 @@
+//! A yardstick, and no part of the product: it does one piece of work on a mesh and prints counts.
+//!
+//! `geode_bench WORK` reads OBJ text on standard input at 1,024 to a unit. WORK is `read`, which only
+//! makes the list of triangles; `sort`, which sorts the list's directed edges by std's sort; `edges`,
+//! which makes the table of edges; or `clusters`, which cuts the triangles into clusters. Scripts time it
+//! from outside: a piece's time is its run less that of `read`. What it prints depends on the mesh alone.
+#![tactic(auto)]
+
+mod works;
+
+use geom_core::{Memory, Tri};
+use obj_source::read_obj;
+use span_io::StdSource;
+use std::env;
+use std::process::ExitCode;
+use works::{Work, can_be_cut, count_clusters, count_edges, sort_edges};
+
+/// The most triangles that the table of edges takes.
+const MOST: usize = 1_073_741_824;
+
+fn main(rt: HostRuntime) -> ExitCode {
+    let Some(work) = work_of(&rt) else {
+        let _ = eprintln!(rt; "geode_bench: one of read, sort, edges, clusters");
+        return ExitCode::from(2);
+    };
+    let mut input = StdSource::of(rt.stdin());
+    let Ok(tris) = read_obj(rt.alloc(), &mut input, 1024) else {
+        let _ = eprintln!(rt; "geode_bench: no mesh");
+        return ExitCode::FAILURE;
+    };
+    match run(&rt, work, &tris) {
+        Ok(()) => ExitCode::SUCCESS,
+        Err(Memory) => ExitCode::FAILURE,
+    }
+}
+
+/// The work that the command line asks for.
+fn work_of(rt: &HostRuntime) -> Option<Work> {
+    let mut words = env::args(rt).ok()?.skip(1);
+    let word = words.next()?;
+    if words.next().is_some() {
+        return None;
+    }
+    Work::named(&word)
+}
+
+/// Does the work, and prints its counts.
+fn run(rt: &HostRuntime, work: Work, tris: &[Tri]) -> Result<(), Memory> {
+    let count = tris.len();
+    let _ = println!(rt; "triangles {count}");
+    if count > MOST {
+        return Ok(());
+    }
+    match work {
+        Work::Read => {}
+        Work::Sort => {
+            let sorted = sort_edges(rt.alloc(), tris)?;
+            let _ = println!(rt; "edges {sorted}");
+        }
+        Work::Edges => {
+            let (edges, sum) = count_edges(rt.alloc(), tris)?;
+            let _ = println!(rt; "rim {edges} sum {sum}");
+        }
+        Work::Clusters => cut(rt, tris)?,
+    }
+    Ok(())
+}
+
+/// Cuts the triangles into clusters, and prints the counts.
+fn cut(rt: &HostRuntime, tris: &[Tri]) -> Result<(), Memory> {
+    if !can_be_cut(tris) {
+        let _ = println!(rt; "no clusters");
+        return Ok(());
+    }
+    let (clusters, sum) = count_clusters(rt.alloc(), tris)?;
+    let _ = println!(rt; "clusters {clusters} sum {sum}");
+    Ok(())
+}
