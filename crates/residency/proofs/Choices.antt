@@ -1,7 +1,7 @@
 -- What an allowed Take tells of its page and its victim.
 use Rattle.std.proofs.Common.{◌≡◌, ℕ, ◌<◌, List, [], ◌∷◌, Bool, true, false, cond, nat_lt, ◌==◌, ◌⊎◌, inl, inr, ⊎_elim, Option, Some, None, filter, fold, refl}
 use Rattle.std.proofs.lemmas.Bool.Decides.{Decides-ltb}
-use Rattle.residency.specs.declared.frames.Want.{Want}
+use Rattle.residency.specs.declared.wants.Want.{Want}
 use Rattle.residency.specs.declared.layouts.Layout.{Layout}
 use Rattle.residency.specs.declared.nexts.Next.TheVariants.{Take}
 use Rattle.residency.specs.Layout.{page_numbers}

@@ -1,9 +1,11 @@
 -- A journal with one entry more: its state, and that it is legal.
-use Rattle.std.proofs.Common.{◌≡◌, ℕ, ◌+◌, List, [], ◌∷◌, ◌++◌, Bool, true, false, Option, None, length, refl, arith, append_assoc, append-nil, fold}
+use Rattle.std.proofs.Common.{◌≡◌, ℕ, ◌+◌, List, [], ◌∷◌, ◌++◌, Bool, true, false, Option, None, Some, length, refl, ap, ◌∙◌, Result, Err, arith, append_assoc, append-nil, fold}
 use Rattle.std.proofs.lemmas.List.Sums.{fold_push}
 use Rattle.residency.specs.declared.entries.Entry.{Entry}
 use Rattle.residency.specs.declared.layouts.Layout.{Layout}
 use Rattle.residency.specs.Rules.{is_allowed, refused_or, first_refused_after, IsLegal}
+use Rattle.residency.specs.declared.pools.ReplayFault.{ReplayFault}
+use Rattle.residency.specs.declared.pools.ReplayFault.TheVariants.{Illegal}
 use Rattle.residency.specs.State.{State, opening, after, state_of}
 
 pub state_of-push : (layout : Layout) (journal : List Entry) (e : Entry) → state_of layout (journal ++ e ∷ []) ≡ after (state_of layout journal) e
@@ -37,3 +39,15 @@ legal-after layout before (x ∷ entries) e legal allowed =
 -- a legal journal with an allowed entry more is legal
 pub IsLegal-push : (layout : Layout) (journal : List Entry) (e : Entry) → IsLegal layout journal → is_allowed layout journal e ≡ true → IsLegal layout (journal ++ e ∷ [])
 IsLegal-push layout journal e legal allowed = legal-after layout [] journal e legal allowed
+
+pub refused-here : (layout : Layout) (before rest : List Entry) (e : Entry) → is_allowed layout before e ≡ false → first_refused_after layout before (e ∷ rest) ≡ Some (length before)
+refused-here layout before rest e h =
+    ap (λ b. refused_or b (length before) (first_refused_after layout (before ++ e ∷ []) rest)) h
+
+pub allowed-here : (layout : Layout) (before rest : List Entry) (e : Entry) → is_allowed layout before e ≡ true → first_refused_after layout before (e ∷ rest) ≡ first_refused_after layout (before ++ e ∷ []) rest
+allowed-here layout before rest e h =
+    ap (λ b. refused_or b (length before) (first_refused_after layout (before ++ e ∷ []) rest)) h
+
+pub told-place : {A : Type 0} (layout : Layout) (entries : List Entry) (i place n : ℕ) → first_refused_after layout [] entries ≡ Some n → n ≡ i → ◌≡◌ {A = Result A ReplayFault} (Err (Illegal i)) (Err (Illegal place)) → first_refused_after layout [] entries ≡ Some place
+told-place layout entries i place n refused is told =
+    let same : i ≡ place = cc in refused ∙ ap Some (is ∙ same)

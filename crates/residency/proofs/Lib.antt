@@ -1,15 +1,23 @@
+pub mod Agreed
+pub mod Allowed
 pub mod Bounded
 pub mod Choices
+pub mod Counts
 pub mod Cuts
 pub mod Examples
 mod ExamplesText
 pub mod FittingUppers
 pub mod Flags
+pub mod Held
 pub mod HexDigits
+pub mod Indexes
+pub mod Kept
 pub mod KeptByLines
 pub mod LegalJournals
 pub mod Limits
 pub mod Missing
+pub mod NextAnswers
+pub mod Numbered
 pub mod Padding
 pub mod Pinned
 pub mod PrintedDigests
@@ -18,9 +26,9 @@ pub mod PrintedJournal
 pub mod PrintedLines
 pub mod PrintedNumbers
 pub mod PrintedParts
-pub mod Puts
 pub mod Ranges
 pub mod Soundness
 pub mod Stalest
 pub mod Tests
+pub mod Waiting
 pub mod WithinTypes

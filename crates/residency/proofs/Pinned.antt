@@ -2,8 +2,8 @@
 use Rattle.std.proofs.Common.{◌≡◌, ℕ, zero, suc, ◌==◌, List, [], ◌∷◌, Bool, true, false, cond, ◌⊎◌, inl, inr, ⊎_elim, get_or, set, replicate, map, fold, refl, sym}
 use Rattle.std.proofs.lemmas.Bool.Decides.{Decides-eqb}
 use Rattle.std.specs.List.{list_any}
-use Rattle.residency.specs.declared.frames.Frame.{Frame}
-use Rattle.residency.specs.declared.frames.Want.{Want}
+use Rattle.residency.specs.Frame.{Frame}
+use Rattle.residency.specs.declared.wants.Want.{Want}
 use Rattle.residency.specs.State.{put, waits_for, with_installed, marked}
 use Rattle.residency.proofs.Flags.{get_or-set_cases}
 use Rattle.residency.proofs.Tests.{or-cases, or-left, or-right}

@@ -8,8 +8,8 @@ use Rattle.std.proofs.lemmas.List.FromFn.{get_or-range_with_len, length-range_wi
 use Rattle.residency.specs.declared.entries.Entry.{Entry}
 use Rattle.residency.specs.declared.entries.What.{What}
 use Rattle.residency.specs.declared.entries.What.TheVariants.{Pin, Settle, Ask, Narrow, Unpin, Take, Install, Fail, Spoil, Starve, Full, Stop}
-use Rattle.residency.specs.declared.frames.Frame.{Frame}
-use Rattle.residency.specs.declared.frames.Want.{Want}
+use Rattle.residency.specs.Frame.{Frame}
+use Rattle.residency.specs.declared.wants.Want.{Want}
 use Rattle.residency.specs.declared.layouts.Layout.{Layout}
 use Rattle.residency.specs.Layout.{InBounds, page_numbers, uppers_of, is_upper, ascends}
 use Rattle.residency.specs.Next.{can_take, is_take, next_in}
@@ -206,14 +206,14 @@ taken-free layout s taken by entries sound can free = record {
 }
 
 -- what is known of a page that may be evicted
-record IsLoose (layout : Layout) (s : State) (page victim : ℕ) : Type 0 where
-  resident : is_resident s victim ≡ true
-  no_root : nat_lt victim layout.roots ≡ false
-  unpinned : is_pinned s victim ≡ false
-  bare : is_stood_on layout s victim ≡ false
-  no_upper : is_upper layout victim page ≡ false
+pub record IsLoose (layout : Layout) (s : State) (page victim : ℕ) : Type 0 where
+  pub resident : is_resident s victim ≡ true
+  pub no_root : nat_lt victim layout.roots ≡ false
+  pub unpinned : is_pinned s victim ≡ false
+  pub bare : is_stood_on layout s victim ≡ false
+  pub no_upper : is_upper layout victim page ≡ false
 
-loose : (layout : Layout) (s : State) (page victim : ℕ) → is_evictable layout s page victim ≡ true → IsLoose layout s page victim
+pub loose : (layout : Layout) (s : State) (page victim : ℕ) → is_evictable layout s page victim ≡ true → IsLoose layout s page victim
 loose layout s page victim h =
     let root = nat_lt victim layout.roots in
     let pin = is_pinned s victim in
@@ -311,7 +311,7 @@ maker-loading : (maker : Option ℕ) (by : ℕ) → is_maker maker by ≡ true �
 maker-loading None by h = cc
 maker-loading (Some m) by h = refl
 
-loads-loading : (s : State) (by page : ℕ) → loads s by page ≡ true → is_loading s page ≡ true
+pub loads-loading : (s : State) (by page : ℕ) → loads s by page ≡ true → is_loading s page ≡ true
 loads-loading s by page h = maker-loading (get_or s.loading page None) by h
 
 -- the pages of a Settle are resident, so its pins are

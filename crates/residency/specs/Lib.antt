@@ -1,9 +1,13 @@
+pub mod Agreement
+pub mod Frame
 pub mod Grammar
 pub mod History
+pub mod Holding
 pub mod Kept
 pub mod Layout
 pub mod Left
 pub mod Next
+pub mod Recalled
 pub mod Rules
 pub mod Shown
 pub mod Sound

@@ -2,7 +2,7 @@
 use Rattle.std.specs.Prelude.{◌==◌, ◌&&◌, ℕ, List, Bool, true, false, not, find, nat_lt, if◌then◌else◌, Option, None, Some}
 use Rattle.std.specs.List.{list_all}
 use Rattle.residency.specs.declared.entries.Entry.{Entry}
-use Rattle.residency.specs.declared.frames.Want.{Want}
+use Rattle.residency.specs.declared.wants.Want.{Want}
 use Rattle.residency.specs.declared.layouts.Layout.{Layout}
 use Rattle.residency.specs.declared.nexts.Next.{Next}
 use Rattle.residency.specs.declared.nexts.Next.TheVariants.{Take, Full, Busy, Nothing}

@@ -1,12 +1,14 @@
--- The state that a pool's arrays show.
+-- The state that a pool's arrays show, but for the live frames.
+use Rattle.std.specs.Prelude.{List}
 use Rattle.residency.specs.declared.standings.Standing.{Standing}
+use Rattle.residency.specs.Frame.{Frame}
 use Rattle.residency.specs.State.{State}
 
-abbrev pub shown : Standing → State
-shown standing = record {
-  resident = standing.resident.items;
-  loading = standing.loading.items;
-  frames = standing.frames.items;
+abbrev pub shown : Standing → List Frame → State
+shown standing frames = record {
+  resident = standing.places.resident.items;
+  loading = standing.places.loading.items;
+  frames = frames;
   wants = standing.wants.items;
   named = standing.named.items;
   stopped = standing.stopped;

@@ -4,8 +4,8 @@ use Rattle.std.specs.List.{list_any}
 use Rattle.residency.specs.declared.entries.Entry.{Entry}
 use Rattle.residency.specs.declared.entries.What.{What}
 use Rattle.residency.specs.declared.entries.What.TheVariants.{Pin, Settle, Ask, Narrow, Unpin, Take, Install, Fail, Spoil, Starve, Stop}
-use Rattle.residency.specs.declared.frames.Frame.{Frame}
-use Rattle.residency.specs.declared.frames.Want.{Want}
+use Rattle.residency.specs.Frame.{Frame}
+use Rattle.residency.specs.declared.wants.Want.{Want}
 use Rattle.residency.specs.declared.layouts.Layout.{Layout}
 use Rattle.residency.specs.Layout.{page_numbers}
 

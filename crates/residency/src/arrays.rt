@@ -1,9 +1,12 @@
-ghost use Rattle.std.specs.Prelude.{◌≡◌, IfOk, slice_set, true, fold};
-ghost use Rattle.residency.specs.State.{marked, name_at};
+ghost use Rattle.std.specs.Prelude.{◌≡◌, slice_index_or, slice_set};
+ghost use Rattle.residency.specs.State.{name_at};
 
-use crate::frames::Marks;
-use geom_core::Memory;
-use std::alloc::Global;
+/// The page's count; 0 where there is no such page.
+pub fn count_at(counts: &[u64], page: u32) -> u64
+    ensures { result ≡ slice_index_or counts.now page 0 }
+{
+    counts.get(page as usize).copied().unwrap_or(0)
+}
 
 /// Writes the page's item; where there is no such page, nothing.
 pub fn write<T: Copy>(items: &mut [T], page: u32, value: T)
@@ -12,24 +15,6 @@ pub fn write<T: Copy>(items: &mut [T], page: u32, value: T)
     if (page as usize) < items.len() {
         items[page as usize] = value;
     }
-}
-
-/// Marks these pages besides.
-fn mark_all(marks: &mut [bool], pages: &[u32])
-    ensures { marks.new ≡ fold (λ marks page. slice_set marks page true) marks.old pages.now }
-{
-    for page in pages {
-        write(marks, *page, true);
-    }
-}
-
-/// An array by page that marks these pages alone.
-pub fn marked(alloc: Global, pages: usize, numbers: &[u32]) -> Result<Marks, Memory>
-    ensures { IfOk result (λ marks. marks ≡ marked pages numbers.now) }
-{
-    let mut marks = vec![in alloc; false; pages]?;
-    mark_all(&mut marks, numbers);
-    Ok(Marks::of(marks))
 }
 
 /// Names the pages at this count of entries.

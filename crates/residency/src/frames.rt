@@ -1,61 +1,252 @@
-ghost use Rattle.std.specs.Prelude.{◌≡◌, List, Bool, true, slice_set};
+ghost use Rattle.std.specs.Prelude.{◌≡◌, ◌+◌, ◌-◌, ◌<◌, ◌≤◌, ◌^◌, ℕ, IfOk, IfSome, IsSome, IsTrue, OnOk, OnErr, OnSome, None, Some, true, false, length, min, nat_eq, slice_index_or, ◌⊎◌};
+ghost use Rattle.std.specs.BTreeMap.{get, Updates, IsUnchanged};
+ghost use Rattle.std.specs.BTreeSet as set;
+ghost use Rattle.std.specs.List.{list_any};
+ghost use Rattle.std.specs.Ordering.{nat_cmp};
+ghost use Rattle.residency.specs.Holding.{IsIndexed, NamesNone, NamesOne, moment_in, named_by, one, listed, unlisted};
 
-use crate::arrays::write;
-use std::marker::Model;
+use crate::arrays::count_at;
+use geom_core::Memory;
+use std::alloc::{AllocError, Global};
+use std::collections::{BTreeMap, BTreeSet};
 
-/// A truth value for each page, by page number. A contract sees the list itself.
+/// What a live frame holds: the pages that it pins by name, and those that were there at its moment.
 #[derive(Debug, Drop)]
-pub struct Marks {
-    items: Vec<bool>,
-}
-
-impl Model for Marks {
-    ghost Value = { List Bool };
-
-    ghost view = { λ marks. marks.items.items };
-}
-
-impl Marks {
-    /// These truth values. Takes no memory.
-    pub fn of(items: Vec<bool>) -> Marks
-        ensures { result ≡ items.items }
-    {
-        Marks { items }
-    }
-
-    /// The truth values, in the order of the pages.
-    pub fn as_slice(&self) -> &[bool]
-        ensures { result.now ≡ self.now }
-    {
-        self.items.as_slice()
-    }
-
-    /// Marks the page; where there is no such page, nothing.
-    pub fn mark(&mut self, page: u32)
-        ensures { self.new ≡ slice_set self.old page true }
-    {
-        write(&mut self.items, page, true);
-    }
-}
-
-/// A live frame: pinned, and not yet unpinned.
-#[derive(Debug, Drop)]
-pub struct Frame {
-    /// The frame's number.
-    pub number: u32,
-    /// The maker that pinned it.
+pub struct Hold {
+    /// The maker that pinned the frame.
     pub owner: u32,
-    /// For each page, whether the frame pins it.
-    pub pins: Marks,
+    /// How many entries there were when the frame was pinned: it pins all that was resident by then.
+    /// None once it settled or narrowed.
+    pub moment: Option<u64>,
+    /// The pages that it pins by name.
+    pub pages: BTreeSet<u32>,
 }
 
-/// A page that a frame wants to be loaded.
-#[derive(Clone, Copy, Debug, PartialEq, Eq)]
-pub struct Want {
-    /// The frame that wants it.
-    pub frame: u32,
-    /// The page that it wants.
-    pub page: u32,
-    /// Whether the frame settles: it then pins the page once it is installed.
-    pub settled: bool,
+/// What the live frames hold, with indexes by moment and by page.
+#[derive(Debug, Drop)]
+pub struct Frames {
+    /// By number: what each live frame holds.
+    pub holds: BTreeMap<u32, Hold>,
+    /// By moment: the number of the live frame that was pinned then.
+    pub moments: BTreeMap<u64, u32>,
+    /// By page: how many live frames pin it by name.
+    pub counts: Vec<u64>,
+}
+
+/// The set of these pages.
+pub fn set_of(alloc: Global, pages: &[u32]) -> Result<BTreeSet<u32>, AllocError>
+    ensures { IfOk result (λ named. (page : ℕ) →
+        set.contains nat_cmp named page ≡ list_any (nat_eq page) pages.now) }
+{
+    let mut named = BTreeSet::new(alloc);
+    for page in pages {
+        named.insert(*page)?;
+    }
+    Ok(named)
+}
+
+/// Counts one frame more at the page.
+fn raise(counts: &mut [u64], page: u32)
+    ensures len { length counts.new ≡ length counts.old }
+    ensures counts { (p : ℕ) → p < length counts.old → slice_index_or counts.new p 0
+        ≡ min (slice_index_or counts.old p 0 + one (nat_eq page p)) (2 ^ 64 - 1) }
+{
+    if (page as usize) < counts.len() {
+        counts[page as usize] = counts[page as usize].saturating_add(1);
+    }
+}
+
+/// Counts one frame less at the page.
+fn lower(counts: &mut [u64], page: u32)
+    ensures len { length counts.new ≡ length counts.old }
+    ensures counts { (p : ℕ) → p < length counts.old → slice_index_or counts.new p 0
+        ≡ slice_index_or counts.old p 0 - one (nat_eq page p) }
+{
+    if (page as usize) < counts.len() {
+        counts[page as usize] = counts[page as usize].saturating_sub(1);
+    }
+}
+
+/// Counts one frame more at each of the pages.
+fn raise_all(counts: &mut [u64], pages: &BTreeSet<u32>)
+    ensures len { length counts.new ≡ length counts.old }
+    ensures counts { (p : ℕ) → p < length counts.old → slice_index_or counts.new p 0
+        ≡ min (slice_index_or counts.old p 0 + one (set.contains nat_cmp pages.now p)) (2 ^ 64 - 1) }
+{
+    for page in pages.iter() {
+        raise(counts, *page);
+    }
+}
+
+/// Counts one frame less at each of the pages.
+fn lower_all(counts: &mut [u64], pages: &BTreeSet<u32>)
+    ensures len { length counts.new ≡ length counts.old }
+    ensures counts { (p : ℕ) → p < length counts.old → slice_index_or counts.new p 0
+        ≡ slice_index_or counts.old p 0 - one (set.contains nat_cmp pages.now p) }
+{
+    for page in pages.iter() {
+        lower(counts, *page);
+    }
+}
+
+/// Lists the frame at its moment, if it has one.
+fn list(moments: &mut BTreeMap<u64, u32>, moment: Option<u64>, frame: u32) -> Result<(), AllocError>
+    ensures ok { OnOk result ((m : ℕ) → get nat_cmp moments.new m
+        ≡ listed (get nat_cmp moments.old) moment frame m) }
+    ensures err { OnErr result (IsUnchanged moments.old moments.new) }
+{
+    if let Some(moment) = moment {
+        moments.insert(moment, frame)?;
+    }
+    Ok(())
+}
+
+/// Lists no frame at the moment, if there is one.
+fn unlist(moments: &mut BTreeMap<u64, u32>, moment: Option<u64>)
+    ensures { (m : ℕ) → get nat_cmp moments.new m ≡ unlisted (get nat_cmp moments.old) moment m }
+{
+    if let Some(moment) = moment {
+        moments.remove(&moment);
+    }
+}
+
+/// Counts the frame, where it is live, at each page that it pins by name.
+fn raise_for(counts: &mut [u64], holds: &BTreeMap<u32, Hold>, frame: u32)
+    ensures len { length counts.new ≡ length counts.old }
+    ensures counts { (p : ℕ) → p < length counts.old → slice_index_or counts.new p 0
+        ≡ min (slice_index_or counts.old p 0 + named_by p (get nat_cmp holds.now frame)) (2 ^ 64 - 1) }
+{
+    if let Some(hold) = holds.get(&frame) {
+        raise_all(counts, &hold.pages);
+    }
+}
+
+/// Lets go of what a frame held: counts and lists it no more.
+fn release(moments: &mut BTreeMap<u64, u32>, counts: &mut [u64], hold: Option<Hold>)
+    ensures moments { (m : ℕ) → get nat_cmp moments.new m
+        ≡ unlisted (get nat_cmp moments.old) (moment_in hold) m }
+    ensures len { length counts.new ≡ length counts.old }
+    ensures counts { (p : ℕ) → p < length counts.old → slice_index_or counts.new p 0
+        ≡ slice_index_or counts.old p 0 - named_by p hold }
+{
+    if let Some(hold) = hold {
+        lower_all(counts, &hold.pages);
+        unlist(moments, hold.moment);
+    }
+}
+
+impl Frames {
+    ghost use Rattle.residency.specs.declared.frames.Hold.{Hold};
+
+    /// No live frames, over this number of pages.
+    pub fn opening(alloc: Global, pages: u32) -> Result<Frames, Memory>
+        ensures none { IfOk result (λ frames. (f : ℕ) → get nat_cmp frames.holds f ≡ None) }
+        ensures indexed { IfOk result IsIndexed }
+        ensures counts { IfOk result (λ frames. length frames.counts.items ≡ pages) }
+    {
+        let counts = vec![in alloc; 0; pages as usize]?;
+        Ok(Frames {
+            holds: BTreeMap::new(alloc),
+            moments: BTreeMap::new(alloc),
+            counts,
+        })
+    }
+
+    /// Whether some live frame pins the page by name.
+    pub fn is_named(&self, page: u32) -> bool
+        ensures named { IsIndexed self.now → result ≡ true →
+            (f : ℕ) × (hold : Hold) × (get nat_cmp self.now.holds f ≡ Some hold)
+            × (set.contains nat_cmp hold.pages page ≡ true) }
+        ensures unnamed { IsIndexed self.now → page < length self.now.counts.items →
+            result ≡ false → (f : ℕ) (hold : Hold) → get nat_cmp self.now.holds f ≡ Some hold →
+            set.contains nat_cmp hold.pages page ≡ false }
+    {
+        count_at(&self.counts, page) > 0
+    }
+
+    /// Whether some live frame has a moment at which a page was there that came at this count.
+    pub fn is_covered(&self, since: u64) -> bool
+        ensures some { result ≡ true →
+            (m : ℕ) × IsSome (get nat_cmp self.now.moments m) × (since ≤ m) }
+        ensures none { result ≡ false →
+            (m : ℕ) → IsSome (get nat_cmp self.now.moments m) → m < since }
+    {
+        match self.moments.last_key_value() {
+            Some((moment, _)) => since <= *moment,
+            None => false,
+        }
+    }
+
+    /// Makes the frame hold this and nothing else. After Memory all is as before.
+    pub fn put(&mut self, frame: u32, hold: Hold) -> Result<(), Memory>
+        ensures ok { OnOk result (Updates nat_cmp self.old.holds self.new.holds frame (Some hold)) }
+        ensures err { OnErr result (IsUnchanged self.old.holds self.new.holds) }
+        ensures moments { OnOk result ((m : ℕ) → IsSome (get nat_cmp self.new.moments m) →
+            (hold.moment ≡ Some m) ⊎ IsSome (get nat_cmp self.old.moments m)) }
+        ensures err_moments { OnErr result ((m : ℕ) → IsSome (get nat_cmp self.new.moments m) →
+            IsSome (get nat_cmp self.old.moments m)) }
+        ensures counts { length self.new.counts.items ≡ length self.old.counts.items }
+        ensures indexed { IsIndexed self.old →
+            ((m : ℕ) → hold.moment ≡ Some m → get nat_cmp self.old.moments m ≡ None) →
+            IsIndexed self.new }
+    {
+        let moment = hold.moment;
+        list(&mut self.moments, moment, frame)?;
+        let old = match self.holds.insert(frame, hold) {
+            Ok(old) => old,
+            Err(_) => {
+                unlist(&mut self.moments, moment);
+                return Err(Memory);
+            }
+        };
+        // Live frames are too few for a count to run over.
+        let _live = self.holds.len();
+        raise_for(&mut self.counts, &self.holds, frame);
+        release(&mut self.moments, &mut self.counts, old);
+        Ok(())
+    }
+
+    /// Ends the frame.
+    pub fn remove(&mut self, frame: u32)
+        ensures removed { Updates nat_cmp self.old.holds self.new.holds frame None }
+        ensures moments { (m : ℕ) → IsSome (get nat_cmp self.new.moments m) →
+            IsSome (get nat_cmp self.old.moments m) }
+        ensures counts { length self.new.counts.items ≡ length self.old.counts.items }
+        ensures indexed { IsIndexed self.old → IsIndexed self.new }
+    {
+        let old = self.holds.remove(&frame);
+        release(&mut self.moments, &mut self.counts, old);
+    }
+
+    /// Makes the frame, where it is live, pin the page by name besides. After Memory all is as before.
+    pub fn name(&mut self, frame: u32, page: u32) -> Result<(), Memory>
+        ensures ok { OnOk result (NamesOne self.old.holds self.new.holds frame page true) }
+        ensures err { OnErr result (NamesNone self.old.holds self.new.holds) }
+        ensures moments { self.new.moments ≡ self.old.moments }
+        ensures counts { length self.new.counts.items ≡ length self.old.counts.items }
+        ensures indexed { IsIndexed self.old → IsIndexed self.new }
+    {
+        // Live frames are too few for a count to run over.
+        let _live = self.holds.len();
+        if let Some(hold) = self.holds.get_mut(&frame) {
+            if hold.pages.insert(page)? {
+                raise(&mut self.counts, page);
+            }
+        }
+        Ok(())
+    }
+
+    /// Makes the frame pin the page by name no more.
+    pub fn unname(&mut self, frame: u32, page: u32)
+        ensures unnamed { NamesOne self.old.holds self.new.holds frame page false }
+        ensures moments { self.new.moments ≡ self.old.moments }
+        ensures counts { length self.new.counts.items ≡ length self.old.counts.items }
+        ensures indexed { IsIndexed self.old → IsIndexed self.new }
+    {
+        if let Some(hold) = self.holds.get_mut(&frame) {
+            if hold.pages.remove(&page) {
+                lower(&mut self.counts, page);
+            }
+        }
+    }
 }

@@ -8,6 +8,7 @@
 //! reads it, and what is printed reads back.
 #![tactic(auto)]
 
+mod accounts;
 mod arrays;
 mod bounds;
 mod changes;
@@ -23,14 +24,17 @@ mod numbers;
 mod page_lists;
 mod pages;
 mod parts;
+mod places;
 #[cfg(test)]
 mod pool_tests;
 mod pools;
 mod reading;
+mod recalls;
 mod round_trips;
 mod rules;
 mod standings;
 mod victims;
+mod wants;
 
 pub use entries::{Entries, Entry, Spoilt, What};
 pub use journals::{Journal, JournalFault};

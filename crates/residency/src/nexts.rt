@@ -1,12 +1,14 @@
-ghost use Rattle.std.specs.Prelude.{◌≡◌};
+ghost use Rattle.std.specs.Prelude.{◌≡◌, [], List, ℕ};
+ghost use Rattle.residency.specs.Agreement.{Agrees};
+ghost use Rattle.residency.specs.Frame.{Frame};
 ghost use Rattle.residency.specs.Shown.{shown};
 ghost use Rattle.residency.specs.Next.{is_want_for, can_take, is_takeable, first_takeable, is_busy, first_loading, next_at, next_without, next_in};
 
 use crate::Layout;
-use crate::frames::Want;
 use crate::pages::uppers_of;
 use crate::standings::Standing;
 use crate::victims::victim_for;
+use crate::wants::Want;
 
 /// What a loader may do next, for a frame or for all of them.
 #[derive(Clone, Copy, Debug, PartialEq, Eq)]
@@ -44,21 +46,21 @@ fn is_want_for(frame: Option<u32>, want: &Want) -> bool
 
 /// Whether the page can be taken: it is neither resident nor being loaded, and its uppers are resident.
 fn can_take(layout: &Layout, standing: &Standing, page: u32) -> bool
-    ensures { result ≡ can_take layout.now (shown standing.now) page }
+    ensures { result ≡ can_take layout.now (shown standing.now []) page }
 {
     !standing.is_held(page) && standing.all_resident(uppers_of(layout, page))
 }
 
 /// Whether it is a want for the frame, or for any, and its page can be taken.
 fn is_takeable(layout: &Layout, standing: &Standing, frame: Option<u32>, want: &Want) -> bool
-    ensures { result ≡ is_takeable layout.now (shown standing.now) frame want.now }
+    ensures { result ≡ is_takeable layout.now (shown standing.now []) frame want.now }
 {
     is_want_for(frame, want) && can_take(layout, standing, want.page)
 }
 
 /// The first want whose page can be taken.
 fn first_takeable(layout: &Layout, standing: &Standing, frame: Option<u32>) -> Option<Want>
-    ensures { result ≡ first_takeable layout.now (shown standing.now) frame }
+    ensures { result ≡ first_takeable layout.now (shown standing.now []) frame }
 {
     for want in &standing.wants {
         if is_takeable(layout, standing, frame, want) {
@@ -70,14 +72,14 @@ fn first_takeable(layout: &Layout, standing: &Standing, frame: Option<u32>) -> O
 
 /// Whether it is a want of the frame and its page is being loaded.
 fn is_busy(standing: &Standing, frame: u32, want: &Want) -> bool
-    ensures { result ≡ is_busy (shown standing.now) frame want.now }
+    ensures { result ≡ is_busy (shown standing.now []) frame want.now }
 {
     want.frame == frame && standing.is_loading(want.page)
 }
 
 /// The frame's first want whose page is being loaded.
 fn first_loading(standing: &Standing, frame: u32) -> Option<Want>
-    ensures { result ≡ first_loading (shown standing.now) frame }
+    ensures { result ≡ first_loading (shown standing.now []) frame }
 {
     for want in &standing.wants {
         if is_busy(standing, frame, want) {
@@ -89,9 +91,10 @@ fn first_loading(standing: &Standing, frame: u32) -> Option<Want>
 
 /// What becomes of a page that can be taken: it goes into a free slot or for a victim, or nowhere.
 fn next_at(layout: &Layout, standing: &Standing, page: u32) -> Next
-    ensures { result ≡ next_at layout.now (shown standing.now) page }
+    ensures { (entries : ℕ) (frames : List Frame) → Agrees entries frames standing.now →
+        result ≡ next_at layout.now (shown standing.now frames) page }
 {
-    if standing.held_count() < layout.slots as usize {
+    if standing.held_count() < u64::from(layout.slots) {
         return Next::Take { page, victim: None };
     }
     match victim_for(layout, standing, page) {
@@ -105,7 +108,7 @@ fn next_at(layout: &Layout, standing: &Standing, page: u32) -> Next
 
 /// What a loader learns where no page can be taken.
 fn next_without(standing: &Standing, frame: Option<u32>) -> Next
-    ensures { result ≡ next_without (shown standing.now) frame }
+    ensures { result ≡ next_without (shown standing.now []) frame }
 {
     let Some(frame) = frame else {
         return Next::Nothing;
@@ -118,7 +121,8 @@ fn next_without(standing: &Standing, frame: Option<u32>) -> Next
 
 /// What a loader may do next for the frame, or for all frames.
 pub fn next_in(layout: &Layout, standing: &Standing, frame: Option<u32>) -> Next
-    ensures { result ≡ next_in layout.now (shown standing.now) frame }
+    ensures { (entries : ℕ) (frames : List Frame) → Agrees entries frames standing.now →
+        result ≡ next_in layout.now (shown standing.now frames) frame }
 {
     match first_takeable(layout, standing, frame) {
         Some(want) => next_at(layout, standing, want.page),

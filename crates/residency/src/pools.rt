@@ -4,13 +4,13 @@ ghost use Rattle.residency.specs.Layout.{InBounds};
 ghost use Rattle.residency.specs.Next.{next_after};
 ghost use Rattle.residency.specs.Rules.{is_allowed, first_refused, IsLegal};
 ghost use Rattle.residency.specs.Sound.{IsSound};
-ghost use Rattle.residency.specs.Shown.{shown};
+ghost use Rattle.residency.specs.Kept.{Keeps};
 ghost use Rattle.residency.specs.State.{is_resident, residency, state_of};
 ghost use Rattle.residency.specs.Victim.{victim_after};
 
+use crate::accounts::Account;
 use crate::nexts::next_in;
 use crate::rules::allows;
-use crate::standings::Standing;
 use crate::victims::victim_for;
 use crate::{Entry, Layout, Next};
 use geom_core::{Memory, Nums};
@@ -68,7 +68,7 @@ impl From<Memory> for ReplayFault {
 pub struct Pool {
     layout: Layout,
     journal: Vec<Entry>,
-    standing: Standing,
+    account: Account,
 }
 
 impl Model for Pool {
@@ -80,7 +80,7 @@ impl Model for Pool {
 
     ghost view = { λ pool. record { layout = pool.layout; journal = pool.journal.items } };
 
-    ghost invariant = { λ pool. IsKept pool.layout pool.journal.items pool.standing };
+    ghost invariant = { λ pool. IsKept pool.layout pool.journal.items pool.account };
 }
 
 /// Puts the entry behind the others, for which there is room.
@@ -94,24 +94,26 @@ fn add(journal: &mut Vec<Entry>, entry: Entry)
     }
 }
 
-/// How the pool stands after these entries, where each is allowed.
-fn stands_after(alloc: Global, layout: &Layout, entries: &[Entry]) -> Result<Standing, ReplayFault>
-    requires { length entries.now < 2 ^ 64 - 1 }
+/// What is kept of these entries, where each is allowed.
+fn account_of(alloc: Global, layout: &Layout, entries: &[Entry]) -> Result<Account, ReplayFault>
+    requires bounded { InBounds layout.now }
+    requires few { length entries.now < 2 ^ 64 - 1 }
+
     ensures legal { OnOk result (IsLegal layout.now entries.now) }
-    ensures stands { IfOk result (λ standing. shown standing ≡ state_of layout.now entries.now) }
+    ensures keeps { IfOk result (Keeps layout.now entries.now) }
     ensures illegal { (place : ℕ) → result ≡ Err (ReplayFault.Illegal place) →
         first_refused layout.now entries.now ≡ Some place }
 {
-    let mut standing = Standing::opening(alloc, layout)?;
+    let mut account = Account::opening(alloc, layout)?;
     for (place, entry) in entries.iter().enumerate() {
-        if !allows(layout, &standing, &entries[..place], entry) {
+        if !allows(layout, &account, entry) {
             return Err(ReplayFault::Illegal {
                 entry: place as u64,
             });
         }
-        standing.enter(alloc, entry)?;
+        account.enter(alloc, entry)?;
     }
-    Ok(standing)
+    Ok(account)
 }
 
 impl Pool {
@@ -120,11 +122,11 @@ impl Pool {
         requires { InBounds layout }
         ensures { IfOk result (λ pool. pool ≡ begun layout) }
     {
-        let standing = Standing::opening(alloc, &layout)?;
+        let account = Account::opening(alloc, &layout)?;
         Ok(Pool {
             layout,
             journal: Vec::new(alloc),
-            standing,
+            account,
         })
     }
 
@@ -138,11 +140,11 @@ impl Pool {
         ensures illegal { (place : ℕ) → result ≡ Err (ReplayFault.Illegal place) →
             first_refused layout entries.items ≡ Some place }
     {
-        let standing = stands_after(alloc, &layout, &entries)?;
+        let account = account_of(alloc, &layout, &entries)?;
         Ok(Pool {
             layout,
             journal: entries,
-            standing,
+            account,
         })
     }
 
@@ -156,11 +158,11 @@ impl Pool {
 
         ensures unchanged { OnErr result (self.new ≡ self.old) }
     {
-        if !allows(&self.layout, &self.standing, &self.journal, &entry) {
+        if !allows(&self.layout, &self.account, &entry) {
             return Err(StepFault::Illegal);
         }
         reserve_one(&mut self.journal)?;
-        self.standing.enter(alloc, &entry)?;
+        self.account.enter(alloc, &entry)?;
         add(&mut self.journal, entry);
         Ok(())
     }
@@ -169,7 +171,7 @@ impl Pool {
     pub fn next_for(&self, frame: Option<u32>) -> Next
         ensures { result ≡ next_after self.now.layout self.now.journal frame }
     {
-        next_in(&self.layout, &self.standing, frame)
+        next_in(&self.layout, &self.account.standing, frame)
     }
 
     /// The page that would be evicted for this one: of those that may be, the one named least recently,
@@ -178,21 +180,21 @@ impl Pool {
         requires { page < self.now.layout.pages }
         ensures { result ≡ victim_after self.now.layout self.now.journal page }
     {
-        victim_for(&self.layout, &self.standing, page)
+        victim_for(&self.layout, &self.account.standing, page)
     }
 
     /// Whether the page is resident.
     pub fn is_resident(&self, page: u32) -> bool
         ensures { result ≡ is_resident (state_of self.now.layout self.now.journal) page }
     {
-        self.standing.is_resident(page)
+        self.account.standing.is_resident(page)
     }
 
     /// The numbers of the resident pages, ascending.
     pub fn residency(&self, alloc: Global) -> Result<Nums, Memory>
         ensures { IfOk result (λ pages. pages ≡ residency self.now.layout self.now.journal) }
     {
-        Ok(Nums::of(self.standing.residents(alloc, &self.layout)?))
+        Ok(Nums::of(self.account.standing.residents(alloc, &self.layout)?))
     }
 
     /// The layout.

@@ -1,57 +1,18 @@
-ghost use Rattle.std.specs.Prelude.{◌≡◌, []};
+ghost use Rattle.std.specs.Prelude.{◌≡◌, [], List, ℕ};
+ghost use Rattle.residency.specs.Agreement.{Agrees};
+ghost use Rattle.residency.specs.Frame.{Frame};
+ghost use Rattle.residency.specs.declared.entries.Entry.{Entry};
+ghost use Rattle.residency.specs.Recalled.{Recalls};
 ghost use Rattle.residency.specs.Shown.{shown};
-ghost use Rattle.residency.specs.Rules.{is_entry_of, has_entry, after_fail, last_after, rose, is_wrong, allows};
+ghost use Rattle.residency.specs.Rules.{rose, is_wrong, allows};
 ghost use Rattle.residency.specs.Next.{is_take, is_full};
 ghost use Rattle.residency.specs.declared.entries.What.TheVariants.{Settle, Ask, Narrow, Take, Full};
 
+use crate::accounts::Account;
 use crate::nexts::next_in;
 use crate::pages::{ascends, is_page_list};
 use crate::standings::Standing;
 use crate::{Entry, Layout, Next, Spoilt, What};
-
-/// Whether the entry names the frame.
-fn is_entry_of(frame: u32, what: &What) -> bool
-    ensures { result ≡ is_entry_of frame what.now }
-{
-    match what {
-        What::Pin { frame: f }
-        | What::Settle { frame: f, .. }
-        | What::Ask { frame: f, .. }
-        | What::Narrow { frame: f, .. }
-        | What::Unpin { frame: f }
-        | What::Take { frame: Some(f), .. }
-        | What::Full { frame: f } => *f == frame,
-        _ => false,
-    }
-}
-
-/// Whether the frame has an entry in the journal.
-fn has_entry(frame: u32, journal: &[Entry]) -> bool
-    ensures { result ≡ has_entry frame journal.now }
-{
-    journal.iter().any(|entry| is_entry_of(frame, &entry.what))
-}
-
-/// The count of faults after the entry where it is a Fail of the maker's own, else the last one.
-fn after_fail(is_own: bool, what: &What, last: u64) -> u64
-    ensures { result ≡ after_fail is_own what.now last }
-{
-    match what {
-        What::Fail { after, .. } if is_own => *after,
-        _ => last,
-    }
-}
-
-/// The count of faults after the maker's last Fail, 0 where it has none.
-fn last_after(by: u32, journal: &[Entry]) -> u64
-    ensures { result ≡ last_after by journal.now }
-{
-    let mut last = 0;
-    for entry in journal {
-        last = after_fail(entry.by == by, &entry.what, last);
-    }
-    last
-}
 
 /// Whether the count of faults rose, or stays at its greatest.
 fn rose(before: u64, after: u64) -> bool
@@ -104,7 +65,8 @@ fn allows_settle(
     pages: &[u32],
     missing: &[u32],
 ) -> bool
-    ensures { result ≡ allows layout.now (shown standing.now) [] by
+    ensures { (entries : ℕ) (frames : List Frame) → Agrees entries frames standing.now →
+        result ≡ allows layout.now (shown standing.now frames) [] by
         (Settle frame pages.now missing.now) }
 {
     standing.owns(by, frame)
@@ -116,16 +78,21 @@ fn allows_settle(
 
 /// Whether an Ask is allowed.
 fn allows_ask(layout: &Layout, standing: &Standing, by: u32, frame: u32, pages: &[u32]) -> bool
-    ensures { result ≡ allows layout.now (shown standing.now) [] by (Ask frame pages.now) }
+    ensures { (entries : ℕ) (frames : List Frame) → Agrees entries frames standing.now →
+        result ≡ allows layout.now (shown standing.now frames) [] by (Ask frame pages.now) }
 {
     standing.owns(by, frame) && is_page_list(layout, pages) && !standing.any_resident(pages)
 }
 
 /// Whether a Narrow is allowed.
 fn allows_narrow(layout: &Layout, standing: &Standing, by: u32, frame: u32, pages: &[u32]) -> bool
-    ensures { result ≡ allows layout.now (shown standing.now) [] by (Narrow frame pages.now) }
+    ensures { (entries : ℕ) (frames : List Frame) → Agrees entries frames standing.now →
+        result ≡ allows layout.now (shown standing.now frames) [] by (Narrow frame pages.now) }
 {
-    standing.owns(by, frame) && ascends(pages) && standing.all_pinned(frame, pages)
+    if !standing.owns(by, frame) {
+        return false;
+    }
+    ascends(pages) && standing.all_pinned(frame, pages)
 }
 
 /// Whether a Take is allowed.
@@ -137,30 +104,46 @@ fn allows_take(
     page: u32,
     victim: Option<u32>,
 ) -> bool
-    ensures { result ≡ allows layout.now (shown standing.now) [] by (Take frame page victim) }
+    ensures { (entries : ℕ) (frames : List Frame) → Agrees entries frames standing.now →
+        result ≡ allows layout.now (shown standing.now frames) [] by (Take frame page victim) }
 {
-    let is_next = !standing.stopped && is_take(next_in(layout, standing, frame), page, victim);
+    if standing.stopped {
+        return false;
+    }
+    if !is_take(next_in(layout, standing, frame), page, victim) {
+        return false;
+    }
     match frame {
-        Some(frame) => is_next && standing.owns(by, frame),
-        None => is_next,
+        Some(frame) => standing.owns(by, frame),
+        None => true,
     }
 }
 
 /// Whether a Full is allowed.
 fn allows_full(layout: &Layout, standing: &Standing, by: u32, frame: u32) -> bool
-    ensures { result ≡ allows layout.now (shown standing.now) [] by (Full frame) }
+    ensures { (entries : ℕ) (frames : List Frame) → Agrees entries frames standing.now →
+        result ≡ allows layout.now (shown standing.now frames) [] by (Full frame) }
 {
-    !standing.stopped && standing.owns(by, frame) && is_full(next_in(layout, standing, Some(frame)))
+    if standing.stopped {
+        return false;
+    }
+    if !standing.owns(by, frame) {
+        return false;
+    }
+    is_full(next_in(layout, standing, Some(frame)))
 }
 
-/// Whether the entry may stand next after the journal, which leaves the pool standing so.
-pub fn allows(layout: &Layout, standing: &Standing, journal: &[Entry], entry: &Entry) -> bool
-    ensures { result
-        ≡ allows layout.now (shown standing.now) journal.now entry.now.by entry.now.what }
+/// Whether the entry may stand next after the journal of which this is kept.
+pub fn allows(layout: &Layout, account: &Account, entry: &Entry) -> bool
+    ensures { (journal : List Entry) (entries : ℕ) (frames : List Frame) →
+        Recalls journal account.now.recall → Agrees entries frames account.now.standing →
+        result ≡ allows layout.now (shown account.now.standing frames) journal entry.now.by entry.now.what }
 {
+    let standing = &account.standing;
+    let recall = &account.recall;
     let by = entry.by;
     match &entry.what {
-        What::Pin { frame } => standing.owns(by, *frame) || !has_entry(*frame, journal),
+        What::Pin { frame } => standing.owns(by, *frame) || !recall.has_entry(*frame),
         What::Settle {
             frame,
             pages,
@@ -188,9 +171,7 @@ pub fn allows(layout: &Layout, standing: &Standing, journal: &[Entry], entry: &E
             page,
             before,
             after,
-        } => standing.loads(by, *page)
-            && rose(*before, *after)
-            && last_after(by, journal) <= *before,
+        } => standing.loads(by, *page) && rose(*before, *after) && recall.last_after(by) <= *before,
         What::Spoil { page, why } => standing.loads(by, *page) && is_wrong(why),
         What::Full { frame } => allows_full(layout, standing, by, *frame),
         What::Stop => !standing.stopped,

@@ -1,12 +1,13 @@
-use Rattle.std.proofs.Common.{◌≡◌, true, ap, sym, ◌∙◌, arith}
-use Rattle.residency.proofs.LegalJournals.{state_of-push, entries-state_of, IsLegal-push}
+use Rattle.std.proofs.Common.{◌≡◌, true, ap, sym, ◌∙◌, arith, length, rules}
+use Rattle.std.proofs.lemmas.Grind.{common_steps}
+use Rattle.residency.proofs.LegalJournals.{entries-state_of, IsLegal-push}
 use Rattle.residency.specs.Rules.{is_allowed}
-use Rattle.residency.specs.State.{State, after}
+use Rattle.residency.specs.State.{State, state_of}
 use Rattle.residency.proofs.pools.Pool.step.Goals as goal
 
 pub enter-requires : goal.enter-requires
 enter-requires c =
-    let counted = ap (λ (s : State). s.entries) c.self.invariant.stands in
+    let counted = ap (λ (s : State). s.entries) c.self.invariant.keeps.stands.shows in
     omega (arith, entries-state_of c.self.inside.layout c.self.inside.journal.items)
 
 pub invariant_of-self-2 : goal.invariant_of-self-2
@@ -15,11 +16,63 @@ invariant_of-self-2 c =
     let layout = was.layout in
     let journal = was.journal.items in
     let e = c.args.entry in
+    let keeps = c.self.invariant.keeps in
     let items = rw c.in_ok-reserve_one.ensures.items at c.add.ensures in
-    let tested = rw (c.deref.ensures.value, c.self.invariant.stands) at c.allows.ensures in
+    let tested = rw keeps.stands.shows at (c.allows.ensures journal (length journal) (state_of layout journal).frames keeps.recalls keeps.stands.agrees) in
     let allowed : is_allowed layout journal e ≡ true = sym tested ∙ c.if-not-allows.false in
     record {
       bounded = c.self.invariant.bounded;
       legal = rw items (IsLegal-push layout journal e c.self.invariant.legal allowed);
-      stands = rw items (c.in_ok-enter.ensures.ok ∙ (ap (λ (s : State). after s e) c.self.invariant.stands ∙ sym (state_of-push layout journal e)));
+      keeps = rw items (c.in_ok-enter.ensures.ok layout journal keeps c.self.invariant.bounded c.self.invariant.legal allowed);
+    }
+
+pub returns-then-not-allows-clause-illegal : goal.returns-then-not-allows-clause-illegal
+returns-then-not-allows-clause-illegal c =
+    let was = c.self.inside in
+    let layout = was.layout in
+    let journal = was.journal.items in
+    let keeps = c.self.invariant.keeps in
+    let tested = rw keeps.stands.shows at (c.allows.ensures journal (length journal) (state_of layout journal).frames keeps.recalls keeps.stands.agrees) in
+    first_of (search rules, grind (arith, common_steps))
+
+pub returns-in_err-reserve_one-clause-illegal : goal.returns-in_err-reserve_one-clause-illegal
+returns-in_err-reserve_one-clause-illegal c =
+    let was = c.self.inside in
+    let layout = was.layout in
+    let journal = was.journal.items in
+    let keeps = c.self.invariant.keeps in
+    let tested = rw keeps.stands.shows at (c.allows.ensures journal (length journal) (state_of layout journal).frames keeps.recalls keeps.stands.agrees) in
+    first_of (search rules, grind (arith, common_steps))
+
+pub returns-in_err-enter-clause-illegal : goal.returns-in_err-enter-clause-illegal
+returns-in_err-enter-clause-illegal c =
+    let was = c.self.inside in
+    let layout = was.layout in
+    let journal = was.journal.items in
+    let keeps = c.self.invariant.keeps in
+    let tested = rw keeps.stands.shows at (c.allows.ensures journal (length journal) (state_of layout journal).frames keeps.recalls keeps.stands.agrees) in
+    first_of (search rules, grind (arith, common_steps))
+
+pub returns-clause-illegal : goal.returns-clause-illegal
+returns-clause-illegal c =
+    let was = c.self.inside in
+    let layout = was.layout in
+    let journal = was.journal.items in
+    let keeps = c.self.invariant.keeps in
+    let tested = rw keeps.stands.shows at (c.allows.ensures journal (length journal) (state_of layout journal).frames keeps.recalls keeps.stands.agrees) in
+    first_of (search rules, grind (arith, common_steps))
+
+pub invariant_of-self-in_err-enter : goal.invariant_of-self-in_err-enter
+invariant_of-self-in_err-enter c =
+    let was = c.self.inside in
+    let layout = was.layout in
+    let journal = was.journal.items in
+    let keeps = c.self.invariant.keeps in
+    let tested = rw keeps.stands.shows at (c.allows.ensures journal (length journal) (state_of layout journal).frames keeps.recalls keeps.stands.agrees) in
+    let allowed : is_allowed layout journal c.args.entry ≡ true = sym tested ∙ c.if-not-allows.false in
+    let items = c.in_ok-reserve_one.ensures.items in
+    record {
+      bounded = c.self.invariant.bounded;
+      legal = rw items c.self.invariant.legal;
+      keeps = rw items (c.in_err-enter.ensures.err layout journal keeps c.self.invariant.bounded c.self.invariant.legal allowed);
     }

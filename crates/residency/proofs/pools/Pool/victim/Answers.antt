@@ -1,4 +1,9 @@
+use Rattle.std.proofs.Common.{length}
+use Rattle.residency.specs.State.{state_of}
 use Rattle.residency.proofs.pools.Pool.victim.Goals as goal
 
 pub returns : goal.returns
-returns c = rw (← c.self.view_is, ← c.self.invariant.stands) c.victim_for.ensures
+returns c =
+    let was = c.self.inside in
+    let stands = c.self.invariant.keeps.stands in
+    rw (← c.self.view_is, ← stands.shows) (c.victim_for.ensures (length was.journal.items) (state_of was.layout was.journal.items).frames stands.agrees)

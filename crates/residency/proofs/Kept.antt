@@ -1,0 +1,19 @@
+-- What is kept of a journal, by the count of its entries.
+use Rattle.std.proofs.Common.{◌≡◌, ℕ, ◌+◌, List, [], ◌∷◌, ◌++◌, length, sym, arith, subst, length-append}
+use Rattle.residency.specs.Agreement.{Stands}
+use Rattle.residency.specs.declared.entries.Entry.{Entry}
+use Rattle.residency.specs.declared.layouts.Layout.{Layout}
+use Rattle.residency.specs.declared.standings.Standing.{Standing}
+use Rattle.residency.specs.State.{State, after, state_of}
+use Rattle.residency.proofs.LegalJournals.{state_of-push, entries-state_of}
+
+pub Stands-count : (layout : Layout) (journal : List Entry) (x : Standing) → Stands (length journal) x (state_of layout journal) → Stands (state_of layout journal).entries x (state_of layout journal)
+Stands-count layout journal x stands =
+    let P : ℕ → Type 0 = λ n. Stands n x (state_of layout journal) in subst P (sym (entries-state_of layout journal)) stands
+
+pub Keeps-entered : (layout : Layout) (journal : List Entry) (e : Entry) (x : Standing) → Stands ((state_of layout journal).entries + 1) x (after (state_of layout journal) e) → Stands (length (journal ++ e ∷ [])) x (state_of layout (journal ++ e ∷ []))
+Keeps-entered layout journal e x stands =
+    let count : (state_of layout journal).entries + 1 ≡ length (journal ++ e ∷ []) = omega (arith, entries-state_of layout journal, length-append journal (e ∷ [])) in
+    let P : ℕ → Type 0 = λ n. Stands n x (after (state_of layout journal) e) in
+    let Q : State → Type 0 = λ s. Stands (length (journal ++ e ∷ [])) x s in
+    subst Q (sym (state_of-push layout journal e)) (subst P count stands)

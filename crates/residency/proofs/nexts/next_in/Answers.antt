@@ -1,0 +1,8 @@
+use Rattle.std.proofs.Common.{ap, ◌∙◌}
+use Rattle.residency.specs.Next.{next_of}
+use Rattle.residency.specs.Shown.{shown}
+use Rattle.residency.proofs.nexts.next_in.Goals as goal
+
+pub returns-in-Some : goal.returns-in-Some
+returns-in-Some c = λ entries frames agrees.
+    c.next_at.ensures entries frames agrees ∙ ap (next_of c.args.layout.now (shown c.args.standing.now frames) c.args.frame) c.in-Some.ensures

@@ -1,0 +1,25 @@
+use Rattle.residency.specs.Shown.{shown}
+use Rattle.residency.proofs.Allowed.{settled-resident, narrowed-resident, taken-loose}
+use Rattle.residency.proofs.standings.Standing.change.Goals as goal
+
+pub returns-in-Settle-clause-ok : goal.returns-in-Settle-clause-ok
+returns-in-Settle-clause-ok c = λ layout journal frames agrees sound allowed.
+    let s = shown c.args.self.now frames in
+    let told = rw c.in-Settle.is at allowed in
+    let all = settled-resident layout s journal c.args.by c.in-Settle.frame c.in-Settle.pages c.in-Settle.missing told in
+    let done = rw (c.as_slice-in-Settle.ensures, c.as_slice.ensures) at (c.settle.ensures.ok frames agrees) in
+    rw c.in-Settle.is (done all)
+
+pub returns-in-Narrow-clause-ok : goal.returns-in-Narrow-clause-ok
+returns-in-Narrow-clause-ok c = λ layout journal frames agrees sound allowed.
+    let s = shown c.args.self.now frames in
+    let told = rw c.in-Narrow.is at allowed in
+    let all = narrowed-resident layout s journal c.args.by c.in-Narrow.frame c.in-Narrow.pages sound told in
+    let done = rw c.as_slice-in-Narrow.ensures at (c.narrow.ensures.ok frames agrees) in
+    rw c.in-Narrow.is (done all)
+
+pub returns-in-Take-clause-ok : goal.returns-in-Take-clause-ok
+returns-in-Take-clause-ok c = λ layout journal frames agrees sound allowed.
+    let s = shown c.args.self.now frames in
+    let told = rw c.in-Take.is at allowed in
+    rw c.in-Take.is (c.take.ensures frames agrees (taken-loose layout s journal c.args.by c.in-Take.frame c.in-Take.page c.in-Take.victim told))

@@ -1,0 +1,10 @@
+use Rattle.std.proofs.Common.{ap, ◌∙◌, length}
+use Rattle.std.proofs.lemmas.List.FromFn.{length-map-range_with_len}
+use Rattle.residency.proofs.Agreed.{Agrees-opening}
+use Rattle.residency.proofs.standings.Standing.opening.Goals as goal
+
+pub returns-clause-agrees : goal.returns-clause-agrees
+returns-clause-agrees c =
+    let frames = c.in_ok-opening-2.ensures in
+    Agrees-opening c.args.layout.now.pages _ c.in_ok-opening.ensures.counted frames.indexed frames.none c.in_ok-zeros.ensures
+    (ap length c.in_ok-opening.ensures.resident ∙ length-map-range_with_len _ 0 c.args.layout.now.pages) frames.counts

@@ -1,0 +1,18 @@
+use Rattle.std.proofs.Common.{arith, rules}
+use Rattle.std.proofs.lemmas.Grind.{common_steps}
+use Rattle.residency.proofs.victims.is_evictable.Goals as goal
+
+pub returns-then-is_pinned : goal.returns-then-is_pinned
+returns-then-is_pinned c = λ entries frames agrees.
+    let pinned = c.is_pinned.ensures entries frames agrees in
+    first_of (cc, search rules, grind (arith, common_steps))
+
+pub returns-then-not-is_stood_on : goal.returns-then-not-is_stood_on
+returns-then-not-is_stood_on c = λ entries frames agrees.
+    let pinned = c.is_pinned.ensures entries frames agrees in
+    first_of (cc, search rules, grind (arith, common_steps))
+
+pub returns-else-not-is_stood_on : goal.returns-else-not-is_stood_on
+returns-else-not-is_stood_on c = λ entries frames agrees.
+    let pinned = c.is_pinned.ensures entries frames agrees in
+    first_of (cc, search rules, grind (arith, common_steps))
