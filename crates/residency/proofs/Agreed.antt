@@ -292,8 +292,8 @@ Agrees-opening n x counted indexed none since pages counts = record {
   count_a_page = counts ∙ sym pages;
 }
 
-pub no-moment : {X : Type 0} {x y : X} (m : ℕ) (none : Option ℕ) → none ≡ None → none ≡ Some m → x ≡ y
-no-moment m none is own = cc
+pub no-moment : {X : Type 0} {x y : X} (m : ℕ) (o : Option ℕ) → o ≡ None → o ≡ Some m → x ≡ y
+no-moment m o is own = cc
 
 pub name_at-len : (named pages : List ℕ) (place : ℕ) → length (name_at place pages named) ≡ length named
 name_at-len named [] place = refl
@@ -324,7 +324,7 @@ and-other : (a b : Bool) → b ≡ false → (a && b) ≡ false
 and-other true b h = h
 and-other false b h = refl
 
-other-page : (page p : ℕ) → nat_eq page p ≡ false → p ≢ page
+pub other-page : (page p : ℕ) → nat_eq page p ≡ false → p ≢ page
 other-page page p apart same = let turned : nat_eq page p ≡ true = (Decides-eqb page p).1 (sym same) in cc
 
 -- what is asked of the frame and of the page

@@ -94,11 +94,11 @@ most = 2 ^ 64 - 1
 abbrev pub count_in : ℕ → List ℕ → ℕ
 count_in page pages = count_by (λ p. nat_eq p page) pages
 
-one-cond : (b : Bool) → cond b 1 0 ≡ one b
+pub one-cond : (b : Bool) → cond b 1 0 ≡ one b
 one-cond true = refl
 one-cond false = refl
 
-count_in-cons : (p page : ℕ) (rest : List ℕ) → count_in p (page ∷ rest) ≡ one (nat_eq page p) + count_in p rest
+pub count_in-cons : (p page : ℕ) (rest : List ℕ) → count_in p (page ∷ rest) ≡ one (nat_eq page p) + count_in p rest
 count_in-cons p page rest =
     sum_by-cons (λ q. cond (nat_eq q p) 1 0) page rest ∙ ap (λ n. n + count_in p rest) (one-cond (nat_eq page p))
 

@@ -8,11 +8,14 @@ pub mod Examples
 mod ExamplesText
 pub mod FittingUppers
 pub mod Flags
+pub mod Followed
+pub mod Foremost
 pub mod Held
 pub mod HexDigits
 pub mod Indexes
 pub mod Kept
 pub mod KeptByLines
+pub mod Leafing
 pub mod LegalJournals
 pub mod Limits
 pub mod Missing
@@ -29,6 +32,7 @@ pub mod PrintedParts
 pub mod Ranges
 pub mod Soundness
 pub mod Stalest
+pub mod Stood
 pub mod Tests
 pub mod Waiting
 pub mod WithinTypes

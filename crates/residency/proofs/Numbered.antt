@@ -138,9 +138,9 @@ AreApart-put frame (f ∷ frames) apart =
 abbrev others : ℕ → List Frame → List Frame
 others m frames = filter (λ f. not (f.number == m)) frames
 
-nothing : (b : Bool) (none : Option Frame) → none ≡ cond b none none
-nothing true none = refl
-nothing false none = refl
+nothing : (b : Bool) (o : Option Frame) → o ≡ cond b o o
+nothing true o = refl
+nothing false o = refl
 
 pub frame_at-others : (n m : ℕ) (frames : List Frame) → frame_at n (filter (λ f. not (f.number == m)) frames) ≡ cond (m == n) None (frame_at n frames)
 frame_at-others n m [] = nothing (m == n) None

@@ -24,19 +24,19 @@ use Rattle.residency.proofs.Pinned.{pinned, pinned-put, pinned-installed, marked
 use Rattle.residency.proofs.Tests.{and-both, not-false, all-at_any, any-weaker, any-filter}
 
 -- what is held is resident or loading
-held-cases : (r l : Bool) → (r || l) ≡ true → (r ≡ true) ⊎ (l ≡ true)
+pub held-cases : (r l : Bool) → (r || l) ≡ true → (r ≡ true) ⊎ (l ≡ true)
 held-cases true l h = inl refl
 held-cases false l h = inr h
 
-held-resident : (r l : Bool) → r ≡ true → (r || l) ≡ true
+pub held-resident : (r l : Bool) → r ≡ true → (r || l) ≡ true
 held-resident true l h = refl
 held-resident false l h = cc
 
-held-loading : (r l : Bool) → l ≡ true → (r || l) ≡ true
+pub held-loading : (r l : Bool) → l ≡ true → (r || l) ≡ true
 held-loading true l h = refl
 held-loading false l h = h
 
-held-not : (r l : Bool) → (r || l) ≡ false → (r ≡ false) × (l ≡ false)
+pub held-not : (r l : Bool) → (r || l) ≡ false → (r ≡ false) × (l ≡ false)
 held-not true l h = cc
 held-not false l h = (refl, h)
 
@@ -59,17 +59,17 @@ stood_on layout s page q below held upper =
 
 -- ---- the opening
 
-root-resident : (layout : Layout) (page : ℕ) → page < layout.pages → is_resident (opening layout) page ≡ nat_lt page layout.roots
+pub root-resident : (layout : Layout) (page : ℕ) → page < layout.pages → is_resident (opening layout) page ≡ nat_lt page layout.roots
 root-resident layout page below =
     get_or-map-range_with_len (λ p. nat_lt p layout.roots) 0 layout.pages page page false below (omega arith)
 
-resident-root : (layout : Layout) (page : ℕ) → is_resident (opening layout) page ≡ true → page < layout.roots
+pub resident-root : (layout : Layout) (page : ℕ) → is_resident (opening layout) page ≡ true → page < layout.roots
 resident-root layout page h =
     let flags = map (λ p. nat_lt p layout.roots) (page_numbers layout) in
     let below : page < layout.pages = rw length-map-range_with_len at (place-within (λ b. b) flags page false refl h) in
     (Decides-ltb page layout.roots).0 (sym (root-resident layout page below) ∙ h)
 
-none-loading : (pages page : ℕ) → is_some {T = ℕ} (get_or (replicate pages None) page None) ≡ false
+pub none-loading : (pages page : ℕ) → is_some {T = ℕ} (get_or (replicate pages None) page None) ≡ false
 none-loading zero page = refl
 none-loading (suc pages) zero = refl
 none-loading (suc pages) (suc page) = none-loading pages page

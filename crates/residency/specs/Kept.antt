@@ -5,6 +5,7 @@ use Rattle.residency.specs.declared.accounts.Account.{Account}
 use Rattle.residency.specs.declared.entries.Entry.{Entry}
 use Rattle.residency.specs.declared.layouts.Layout.{Layout}
 use Rattle.residency.specs.Layout.{InBounds}
+use Rattle.residency.specs.Leaf.{Ranks}
 use Rattle.residency.specs.Recalled.{Recalls}
 use Rattle.residency.specs.Rules.{IsLegal}
 use Rattle.residency.specs.State.{state_of}
@@ -15,6 +16,8 @@ pub record Keeps (layout : Layout) (journal : List Entry) (account : Account) : 
   pub stands : Stands (length journal) account.standing (state_of layout journal)
   -- the lists of frames and of makers say what the journal does
   pub recalls : Recalls journal account.recall
+  -- the counts of the pages that stand on others are right
+  pub ranks : Ranks layout (state_of layout journal) account.leaves
 
 pub record IsKept (layout : Layout) (journal : List Entry) (account : Account) : Type 0 where
   -- the layout is within its bounds

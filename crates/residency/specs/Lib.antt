@@ -5,6 +5,7 @@ pub mod History
 pub mod Holding
 pub mod Kept
 pub mod Layout
+pub mod Leaf
 pub mod Left
 pub mod Next
 pub mod Recalled

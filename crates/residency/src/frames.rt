@@ -5,7 +5,7 @@ ghost use Rattle.std.specs.List.{list_any};
 ghost use Rattle.std.specs.Ordering.{nat_cmp};
 ghost use Rattle.residency.specs.Holding.{IsIndexed, NamesNone, NamesOne, moment_in, named_by, one, listed, unlisted};
 
-use crate::arrays::count_at;
+use crate::arrays::{count_at, lower, raise};
 use geom_core::Memory;
 use std::alloc::{AllocError, Global};
 use std::collections::{BTreeMap, BTreeSet};
@@ -43,28 +43,6 @@ pub fn set_of(alloc: Global, pages: &[u32]) -> Result<BTreeSet<u32>, AllocError>
         named.insert(*page)?;
     }
     Ok(named)
-}
-
-/// Counts one frame more at the page.
-fn raise(counts: &mut [u64], page: u32)
-    ensures len { length counts.new ≡ length counts.old }
-    ensures counts { (p : ℕ) → p < length counts.old → slice_index_or counts.new p 0
-        ≡ min (slice_index_or counts.old p 0 + one (nat_eq page p)) (2 ^ 64 - 1) }
-{
-    if (page as usize) < counts.len() {
-        counts[page as usize] = counts[page as usize].saturating_add(1);
-    }
-}
-
-/// Counts one frame less at the page.
-fn lower(counts: &mut [u64], page: u32)
-    ensures len { length counts.new ≡ length counts.old }
-    ensures counts { (p : ℕ) → p < length counts.old → slice_index_or counts.new p 0
-        ≡ slice_index_or counts.old p 0 - one (nat_eq page p) }
-{
-    if (page as usize) < counts.len() {
-        counts[page as usize] = counts[page as usize].saturating_sub(1);
-    }
 }
 
 /// Counts one frame more at each of the pages.

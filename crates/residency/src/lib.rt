@@ -18,6 +18,7 @@ mod frames;
 mod journals;
 pub mod laws;
 mod layouts;
+mod leaves;
 mod lines;
 mod nexts;
 mod numbers;

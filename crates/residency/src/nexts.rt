@@ -1,10 +1,12 @@
 ghost use Rattle.std.specs.Prelude.{◌≡◌, [], List, ℕ};
 ghost use Rattle.residency.specs.Agreement.{Agrees};
 ghost use Rattle.residency.specs.Frame.{Frame};
+ghost use Rattle.residency.specs.Leaf.{Ranks};
 ghost use Rattle.residency.specs.Shown.{shown};
 ghost use Rattle.residency.specs.Next.{is_want_for, can_take, is_takeable, first_takeable, is_busy, first_loading, next_at, next_without, next_in};
 
 use crate::Layout;
+use crate::accounts::Account;
 use crate::pages::uppers_of;
 use crate::standings::Standing;
 use crate::victims::victim_for;
@@ -90,14 +92,15 @@ fn first_loading(standing: &Standing, frame: u32) -> Option<Want>
 }
 
 /// What becomes of a page that can be taken: it goes into a free slot or for a victim, or nowhere.
-fn next_at(layout: &Layout, standing: &Standing, page: u32) -> Next
-    ensures { (entries : ℕ) (frames : List Frame) → Agrees entries frames standing.now →
-        result ≡ next_at layout.now (shown standing.now frames) page }
+fn next_at(layout: &Layout, account: &Account, page: u32) -> Next
+    ensures { (entries : ℕ) (frames : List Frame) → Agrees entries frames account.now.standing →
+        Ranks layout.now (shown account.now.standing frames) account.now.leaves →
+        result ≡ next_at layout.now (shown account.now.standing frames) page }
 {
-    if standing.held_count() < u64::from(layout.slots) {
+    if account.standing.held_count() < u64::from(layout.slots) {
         return Next::Take { page, victim: None };
     }
-    match victim_for(layout, standing, page) {
+    match victim_for(layout, account, page) {
         Some(victim) => Next::Take {
             page,
             victim: Some(victim),
@@ -120,12 +123,13 @@ fn next_without(standing: &Standing, frame: Option<u32>) -> Next
 }
 
 /// What a loader may do next for the frame, or for all frames.
-pub fn next_in(layout: &Layout, standing: &Standing, frame: Option<u32>) -> Next
-    ensures { (entries : ℕ) (frames : List Frame) → Agrees entries frames standing.now →
-        result ≡ next_in layout.now (shown standing.now frames) frame }
+pub fn next_in(layout: &Layout, account: &Account, frame: Option<u32>) -> Next
+    ensures { (entries : ℕ) (frames : List Frame) → Agrees entries frames account.now.standing →
+        Ranks layout.now (shown account.now.standing frames) account.now.leaves →
+        result ≡ next_in layout.now (shown account.now.standing frames) frame }
 {
-    match first_takeable(layout, standing, frame) {
-        Some(want) => next_at(layout, standing, want.page),
-        None => next_without(standing, frame),
+    match first_takeable(layout, &account.standing, frame) {
+        Some(want) => next_at(layout, account, want.page),
+        None => next_without(&account.standing, frame),
     }
 }

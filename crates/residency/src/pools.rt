@@ -111,7 +111,7 @@ fn account_of(alloc: Global, layout: &Layout, entries: &[Entry]) -> Result<Accou
                 entry: place as u64,
             });
         }
-        account.enter(alloc, entry)?;
+        account.enter(alloc, layout, entry)?;
     }
     Ok(account)
 }
@@ -162,7 +162,7 @@ impl Pool {
             return Err(StepFault::Illegal);
         }
         reserve_one(&mut self.journal)?;
-        self.account.enter(alloc, &entry)?;
+        self.account.enter(alloc, &self.layout, &entry)?;
         add(&mut self.journal, entry);
         Ok(())
     }
@@ -171,7 +171,7 @@ impl Pool {
     pub fn next_for(&self, frame: Option<u32>) -> Next
         ensures { result ≡ next_after self.now.layout self.now.journal frame }
     {
-        next_in(&self.layout, &self.account.standing, frame)
+        next_in(&self.layout, &self.account, frame)
     }
 
     /// The page that would be evicted for this one: of those that may be, the one named least recently,
@@ -180,7 +180,7 @@ impl Pool {
         requires { page < self.now.layout.pages }
         ensures { result ≡ victim_after self.now.layout self.now.journal page }
     {
-        victim_for(&self.layout, &self.account.standing, page)
+        victim_for(&self.layout, &self.account, page)
     }
 
     /// Whether the page is resident.

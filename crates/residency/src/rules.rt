@@ -3,6 +3,7 @@ ghost use Rattle.residency.specs.Agreement.{Agrees};
 ghost use Rattle.residency.specs.Frame.{Frame};
 ghost use Rattle.residency.specs.declared.entries.Entry.{Entry};
 ghost use Rattle.residency.specs.Recalled.{Recalls};
+ghost use Rattle.residency.specs.Leaf.{Ranks};
 ghost use Rattle.residency.specs.Shown.{shown};
 ghost use Rattle.residency.specs.Rules.{rose, is_wrong, allows};
 ghost use Rattle.residency.specs.Next.{is_take, is_full};
@@ -98,45 +99,48 @@ fn allows_narrow(layout: &Layout, standing: &Standing, by: u32, frame: u32, page
 /// Whether a Take is allowed.
 fn allows_take(
     layout: &Layout,
-    standing: &Standing,
+    account: &Account,
     by: u32,
     frame: Option<u32>,
     page: u32,
     victim: Option<u32>,
 ) -> bool
-    ensures { (entries : ℕ) (frames : List Frame) → Agrees entries frames standing.now →
-        result ≡ allows layout.now (shown standing.now frames) [] by (Take frame page victim) }
+    ensures { (entries : ℕ) (frames : List Frame) → Agrees entries frames account.now.standing →
+        Ranks layout.now (shown account.now.standing frames) account.now.leaves →
+        result ≡ allows layout.now (shown account.now.standing frames) [] by (Take frame page victim) }
 {
-    if standing.stopped {
+    if account.standing.stopped {
         return false;
     }
-    if !is_take(next_in(layout, standing, frame), page, victim) {
+    if !is_take(next_in(layout, account, frame), page, victim) {
         return false;
     }
     match frame {
-        Some(frame) => standing.owns(by, frame),
+        Some(frame) => account.standing.owns(by, frame),
         None => true,
     }
 }
 
 /// Whether a Full is allowed.
-fn allows_full(layout: &Layout, standing: &Standing, by: u32, frame: u32) -> bool
-    ensures { (entries : ℕ) (frames : List Frame) → Agrees entries frames standing.now →
-        result ≡ allows layout.now (shown standing.now frames) [] by (Full frame) }
+fn allows_full(layout: &Layout, account: &Account, by: u32, frame: u32) -> bool
+    ensures { (entries : ℕ) (frames : List Frame) → Agrees entries frames account.now.standing →
+        Ranks layout.now (shown account.now.standing frames) account.now.leaves →
+        result ≡ allows layout.now (shown account.now.standing frames) [] by (Full frame) }
 {
-    if standing.stopped {
+    if account.standing.stopped {
         return false;
     }
-    if !standing.owns(by, frame) {
+    if !account.standing.owns(by, frame) {
         return false;
     }
-    is_full(next_in(layout, standing, Some(frame)))
+    is_full(next_in(layout, account, Some(frame)))
 }
 
 /// Whether the entry may stand next after the journal of which this is kept.
 pub fn allows(layout: &Layout, account: &Account, entry: &Entry) -> bool
     ensures { (journal : List Entry) (entries : ℕ) (frames : List Frame) →
         Recalls journal account.now.recall → Agrees entries frames account.now.standing →
+        Ranks layout.now (shown account.now.standing frames) account.now.leaves →
         result ≡ allows layout.now (shown account.now.standing frames) journal entry.now.by entry.now.what }
 {
     let standing = &account.standing;
@@ -165,7 +169,7 @@ pub fn allows(layout: &Layout, account: &Account, entry: &Entry) -> bool
             frame,
             page,
             victim,
-        } => allows_take(layout, standing, by, *frame, *page, *victim),
+        } => allows_take(layout, account, by, *frame, *page, *victim),
         What::Install { page, .. } | What::Starve { page } => standing.loads(by, *page),
         What::Fail {
             page,
@@ -173,7 +177,7 @@ pub fn allows(layout: &Layout, account: &Account, entry: &Entry) -> bool
             after,
         } => standing.loads(by, *page) && rose(*before, *after) && recall.last_after(by) <= *before,
         What::Spoil { page, why } => standing.loads(by, *page) && is_wrong(why),
-        What::Full { frame } => allows_full(layout, standing, by, *frame),
+        What::Full { frame } => allows_full(layout, account, by, *frame),
         What::Stop => !standing.stopped,
     }
 }

@@ -10,7 +10,7 @@ ghost use Rattle.residency.specs.State.{opening, is_resident, is_loading, is_hel
 ghost use Rattle.residency.specs.Victim.{is_pinned};
 
 use crate::Layout;
-use crate::arrays::count_at;
+use crate::arrays::{count_at, zeros};
 use crate::frames::Frames;
 use crate::places::Places;
 use crate::wants::Want;
@@ -34,13 +34,6 @@ pub struct Standing {
     pub stopped: bool,
     /// How many entries there are.
     pub entries: u64,
-}
-
-/// No entry, for each of the pages.
-fn zeros(alloc: Global, pages: u32) -> Result<Vec<u64>, Memory>
-    ensures { IfOk result (λ counts. counts.items ≡ replicate pages 0) }
-{
-    Ok(vec![in alloc; 0; pages as usize]?)
 }
 
 /// Whether a page that came at this count of entries was there at the moment.

@@ -1,42 +1,27 @@
-use Rattle.std.proofs.Common.{◌≡◌, ℕ, Bool, true, false, cond, Option, Some, None, add-one, arith, sym, ap, ◌∙◌, refl}
-use Rattle.residency.proofs.Ranges.{fold-filter_more}
+use Rattle.std.proofs.Common.{sym, ◌∙◌}
+use Rattle.std.proofs.lemmas.Map.Iter.{rest_more, rest_all}
+use Rattle.std.specs.Map.Iter.{deref}
+use Rattle.residency.specs.Leaf.{fits}
 use Rattle.residency.specs.Shown.{shown}
-use Rattle.residency.specs.Victim.{is_evictable, staler}
+use Rattle.residency.proofs.Foremost.{find-later, find-here, find-end, victim-found, victim-none}
 use Rattle.residency.proofs.victims.victim_for.Goals as goal
-use Rattle.residency.proofs.victims.victim_for.Goals.{then-is_staler+then-is_evictable, else-is_staler, else-is_staler-via-then-is_staler+else-is_evictable, else-is_staler-via-else-is_staler}
 
--- a candidate that comes first and may be evicted is the best
-taken : (test : Bool) (best staled first : Option ℕ) → test ≡ true → staled ≡ first → first ≡ cond test staled best
-taken true best staled first passes is = sym is
-taken false best staled first passes is = cc
+pub loop-place-preserved : goal.loop-place-preserved
+loop-place-preserved c = λ entries frames agrees ranks.
+    let s = shown c.args.account.now.standing frames in
+    let rest = rest_more deref _ _ _ _ c.in-Some.is c.next.ensures.steps in
+    find-later (fits c.args.layout.now s c.args.page) c.loop-place.place-iterator c.next.new.self c.args.account.now.leaves.order.keys _ rest (sym (c.fits.ensures entries frames agrees ranks) ∙ c.if-fits.false) (c.loop-place.invariant entries frames agrees ranks)
 
--- one that may not changes nothing
-passed_over : (test : Bool) (best staled : Option ℕ) → test ≡ false → best ≡ cond test staled best
-passed_over true best staled fails = cc
-passed_over false best staled fails = refl
-
--- one that doesn't come first changes nothing either
-skipped : (test : Bool) (best staled : Option ℕ) → staled ≡ best → best ≡ cond test staled best
-skipped true best staled is = sym is
-skipped false best staled is = refl
-
-pub loop-candidate-preserved : goal.loop-candidate-preserved
-loop-candidate-preserved c = λ entries frames agrees.
-    let s = shown c.args.standing.now frames in
-    let n = c.loop-candidate.candidate in
-    let best = c.loop-candidate.best in
-    let test = is_evictable c.args.layout.now s c.args.page n in
-    let more = fold-filter_more (staler s) (is_evictable c.args.layout.now s c.args.page) None n in
-    let sofar = c.loop-candidate.invariant entries frames agrees in
-    rw (add-one, more, ← sofar) (elim c.if-is_staler.branch [
-      | then-is_staler+then-is_evictable w ↦ w.best-is ∙ taken test best (staler s best n) (Some n) (sym (w.is_evictable.ensures entries frames agrees) ∙ w.if-is_evictable.true) (c.is_staler.ensures ∙ ap (λ b. cond b (Some n) best) w.if-is_staler.true)
-      | else-is_staler w ↦ w.best-is ∙ elim w.else-is_staler.branch [
-        | else-is_staler-via-then-is_staler+else-is_evictable v ↦ passed_over test best (staler s best n) (sym (v.is_evictable.ensures entries frames agrees) ∙ v.if-is_evictable.false)
-        | else-is_staler-via-else-is_staler v ↦ skipped test best (staler s best n) (c.is_staler.ensures ∙ ap (λ b. cond b (Some n) best) v.if-is_staler.false)
-      ]
-    ])
+pub returns-then-fits : goal.returns-then-fits
+returns-then-fits c = λ entries frames agrees ranks.
+    let s = shown c.args.account.now.standing frames in
+    let rest = rest_more deref _ _ _ _ c.in-Some.is c.next.ensures.steps in
+    victim-found c.args.layout.now s c.args.page c.args.account.now.leaves.order _ ranks.flag_a_page c.iter-place-items.ensures.ordered ranks.listed
+    (find-here (fits c.args.layout.now s c.args.page) c.loop-place.place-iterator c.next.new.self c.args.account.now.leaves.order.keys _ rest (sym (c.if-fits.ensures entries frames agrees ranks)) (c.loop-place.invariant entries frames agrees ranks))
 
 pub returns : goal.returns
-returns c = λ entries frames agrees.
-    let end : c.loop-candidate.candidate ≡ c.args.layout.now.pages = omega arith in
-    rw end at (c.loop-candidate.invariant entries frames agrees)
+returns c = λ entries frames agrees ranks.
+    let s = shown c.args.account.now.standing frames in
+    let rest = rest_all deref _ _ _ c.in-None.is c.next.ensures.steps in
+    victim-none c.args.layout.now s c.args.page c.args.account.now.leaves.order ranks.listed
+    (find-end (fits c.args.layout.now s c.args.page) c.loop-place.place-iterator c.args.account.now.leaves.order.keys rest (c.loop-place.invariant entries frames agrees ranks))

@@ -1,5 +1,6 @@
 use Rattle.std.proofs.Common.{◌≡◌, true, ap, sym, ◌∙◌, arith, length, rules}
 use Rattle.std.proofs.lemmas.Grind.{common_steps}
+use Rattle.residency.proofs.Kept.{Ranks-shown}
 use Rattle.residency.proofs.LegalJournals.{entries-state_of, IsLegal-push}
 use Rattle.residency.specs.Rules.{is_allowed}
 use Rattle.residency.specs.State.{State, state_of}
@@ -18,12 +19,12 @@ invariant_of-self-2 c =
     let e = c.args.entry in
     let keeps = c.self.invariant.keeps in
     let items = rw c.in_ok-reserve_one.ensures.items at c.add.ensures in
-    let tested = rw keeps.stands.shows at (c.allows.ensures journal (length journal) (state_of layout journal).frames keeps.recalls keeps.stands.agrees) in
+    let tested = rw keeps.stands.shows at (c.allows.ensures journal (length journal) (state_of layout journal).frames keeps.recalls keeps.stands.agrees (Ranks-shown layout journal was.account keeps)) in
     let allowed : is_allowed layout journal e ≡ true = sym tested ∙ c.if-not-allows.false in
     record {
       bounded = c.self.invariant.bounded;
       legal = rw items (IsLegal-push layout journal e c.self.invariant.legal allowed);
-      keeps = rw items (c.in_ok-enter.ensures.ok layout journal keeps c.self.invariant.bounded c.self.invariant.legal allowed);
+      keeps = rw items (c.in_ok-enter.ensures.ok journal keeps c.self.invariant.bounded c.self.invariant.legal allowed);
     }
 
 pub returns-then-not-allows-clause-illegal : goal.returns-then-not-allows-clause-illegal
@@ -32,7 +33,7 @@ returns-then-not-allows-clause-illegal c =
     let layout = was.layout in
     let journal = was.journal.items in
     let keeps = c.self.invariant.keeps in
-    let tested = rw keeps.stands.shows at (c.allows.ensures journal (length journal) (state_of layout journal).frames keeps.recalls keeps.stands.agrees) in
+    let tested = rw keeps.stands.shows at (c.allows.ensures journal (length journal) (state_of layout journal).frames keeps.recalls keeps.stands.agrees (Ranks-shown layout journal was.account keeps)) in
     first_of (search rules, grind (arith, common_steps))
 
 pub returns-in_err-reserve_one-clause-illegal : goal.returns-in_err-reserve_one-clause-illegal
@@ -41,7 +42,7 @@ returns-in_err-reserve_one-clause-illegal c =
     let layout = was.layout in
     let journal = was.journal.items in
     let keeps = c.self.invariant.keeps in
-    let tested = rw keeps.stands.shows at (c.allows.ensures journal (length journal) (state_of layout journal).frames keeps.recalls keeps.stands.agrees) in
+    let tested = rw keeps.stands.shows at (c.allows.ensures journal (length journal) (state_of layout journal).frames keeps.recalls keeps.stands.agrees (Ranks-shown layout journal was.account keeps)) in
     first_of (search rules, grind (arith, common_steps))
 
 pub returns-in_err-enter-clause-illegal : goal.returns-in_err-enter-clause-illegal
@@ -50,7 +51,7 @@ returns-in_err-enter-clause-illegal c =
     let layout = was.layout in
     let journal = was.journal.items in
     let keeps = c.self.invariant.keeps in
-    let tested = rw keeps.stands.shows at (c.allows.ensures journal (length journal) (state_of layout journal).frames keeps.recalls keeps.stands.agrees) in
+    let tested = rw keeps.stands.shows at (c.allows.ensures journal (length journal) (state_of layout journal).frames keeps.recalls keeps.stands.agrees (Ranks-shown layout journal was.account keeps)) in
     first_of (search rules, grind (arith, common_steps))
 
 pub returns-clause-illegal : goal.returns-clause-illegal
@@ -59,7 +60,7 @@ returns-clause-illegal c =
     let layout = was.layout in
     let journal = was.journal.items in
     let keeps = c.self.invariant.keeps in
-    let tested = rw keeps.stands.shows at (c.allows.ensures journal (length journal) (state_of layout journal).frames keeps.recalls keeps.stands.agrees) in
+    let tested = rw keeps.stands.shows at (c.allows.ensures journal (length journal) (state_of layout journal).frames keeps.recalls keeps.stands.agrees (Ranks-shown layout journal was.account keeps)) in
     first_of (search rules, grind (arith, common_steps))
 
 pub invariant_of-self-in_err-enter : goal.invariant_of-self-in_err-enter
@@ -68,11 +69,11 @@ invariant_of-self-in_err-enter c =
     let layout = was.layout in
     let journal = was.journal.items in
     let keeps = c.self.invariant.keeps in
-    let tested = rw keeps.stands.shows at (c.allows.ensures journal (length journal) (state_of layout journal).frames keeps.recalls keeps.stands.agrees) in
+    let tested = rw keeps.stands.shows at (c.allows.ensures journal (length journal) (state_of layout journal).frames keeps.recalls keeps.stands.agrees (Ranks-shown layout journal was.account keeps)) in
     let allowed : is_allowed layout journal c.args.entry ≡ true = sym tested ∙ c.if-not-allows.false in
     let items = c.in_ok-reserve_one.ensures.items in
     record {
       bounded = c.self.invariant.bounded;
       legal = rw items c.self.invariant.legal;
-      keeps = rw items (c.in_err-enter.ensures.err layout journal keeps c.self.invariant.bounded c.self.invariant.legal allowed);
+      keeps = rw items (c.in_err-enter.ensures.err journal keeps c.self.invariant.bounded c.self.invariant.legal allowed);
     }

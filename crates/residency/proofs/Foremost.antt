@@ -1,0 +1,149 @@
+-- The leaves in order: the first that may be evicted is the victim.
+use Rattle.std.proofs.Common.{◌≡◌, ℕ, ◌<◌, ◌≤◌, ◌==◌, List, [], ◌∷◌, Bool, true, false, cond, ◌&&◌, ◌⊎◌, inl, inr, ⊎_elim, Option, Some, None, find, length, nat_cmp, refl, sym, ap, ◌∙◌, arith}
+use Rattle.std.specs.BTreeMap.{is_at}
+use Rattle.std.specs.BTreeSet.{BTreeSet}
+use Rattle.std.specs.List.{list_any, AllByRecursion}
+use Rattle.std.specs.List.Sorted.{IsStrictlySortedBy}
+use Rattle.std.specs.declared.cmp.Ordering.TheVariants.{Less}
+use Rattle.std.specs.declared.cmp.Reverse.{Reverse}
+use Rattle.std.proofs.lemmas.Bool.Decides.{nat_tests}
+use Rattle.residency.specs.declared.layouts.Layout.{Layout}
+use Rattle.residency.specs.Leaf.{rank, rank_cmp, fits, is_leaf, IsListed}
+use Rattle.residency.specs.State.{State}
+use Rattle.residency.specs.Victim.{named_of, is_evictable, victim_for, IsStaler}
+use Rattle.residency.proofs.Leafing.{below-pages, rank-same, compared-less, compared-equal, then-less, leaf-whole}
+use Rattle.residency.proofs.Soundness.{loose}
+use Rattle.residency.proofs.Stalest.{IsVictim-from_some, HasNoVictim-from_none}
+use Rattle.residency.proofs.Tests.{and-both, same-eqb, or-cases, find-passes}
+
+abbrev Rank : Type 0
+Rank = ℕ × Reverse ℕ
+
+-- whether the keys have the place
+abbrev has : Rank → List Rank → Bool
+has x keys = list_any (is_at (rank_cmp x)) keys
+
+-- the test tells places that are the same alike
+abbrev IsExact : (Rank → Bool) → Type 0
+IsExact test = (x y : Rank) → is_at (rank_cmp x) y ≡ true → test x ≡ test y
+
+-- a place comes no later than another
+abbrev IsFirst : Rank → Rank → Type 0
+IsFirst x y = (x.0 < y.0) ⊎ ((x.0 ≡ y.0) × (y.1.0 ≤ x.1.0))
+
+first-same : (x y : Rank) → is_at (rank_cmp y) x ≡ true → IsFirst x y
+first-same x y h = let same = rank-same y x h in inr (sym same.0, omega (arith, same.1))
+
+first-less : (x y z : Rank) → rank_cmp x z ≡ Less → is_at (rank_cmp y) z ≡ true → IsFirst x y
+first-less x y z less h =
+    let same = rank-same y z h in
+    ⊎_elim
+    (λ lt. let below = compared-less x.0 z.0 lt in inl (omega (arith, below, same.0)))
+    (λ (eq, more). let here = compared-equal x.0 z.0 eq in let below = compared-less z.1.0 x.1.0 more in inr (omega (arith, here, same.0), omega (arith, below, same.1)))
+    (then-less (nat_cmp x.0 z.0) (nat_cmp z.1.0 x.1.0) less)
+
+first-all : (x y : Rank) (keys : List Rank) → AllByRecursion (λ z. rank_cmp x z ≡ Less) keys → has y keys ≡ true → IsFirst x y
+first-all x y [] all h = cc
+first-all x y (z ∷ keys) (less, all) h =
+    ⊎_elim (λ here. first-less x y z less here) (λ later. first-all x y keys all later) (or-cases (is_at (rank_cmp y) z) (has y keys) h)
+
+-- the first that passes comes no later than any other that does
+pub find-first : (test : Rank → Bool) (keys : List Rank) (x y : Rank) → IsExact test → IsStrictlySortedBy rank_cmp keys → find test keys ≡ Some x → has y keys ≡ true → test y ≡ true → IsFirst x y
+unfolding IsStrictlySortedBy
+find-first test [] x y exact sorted found h passes = cc
+find-first test (z ∷ keys) x y exact sorted found h passes =
+    elim (test z) as (λ b. test z ≡ b → cond b (Some z) (find test keys) ≡ Some x → IsFirst x y) [
+      | true ↦ λ e k.
+          let same : z ≡ x = cc in
+          ⊎_elim (λ here. rw (← same) (first-same z y here)) (λ later. rw (← same) (first-all z y keys sorted.0 later)) (or-cases (is_at (rank_cmp y) z) (has y keys) h)
+      | false ↦ λ e k.
+          ⊎_elim (λ here. let no : test y ≡ false = exact y z here ∙ e in cc) (λ later. find-first test keys x y exact sorted.1 k later passes) (or-cases (is_at (rank_cmp y) z) (has y keys) h)
+    ] refl found
+
+pub find-nothing : (test : Rank → Bool) (keys : List Rank) (y : Rank) → IsExact test → find test keys ≡ None → has y keys ≡ true → test y ≡ true → ⊥
+find-nothing test [] y exact none h passes = cc
+find-nothing test (z ∷ keys) y exact none h passes =
+    elim (test z) as (λ b. test z ≡ b → cond b (Some z) (find test keys) ≡ None → ⊥) [
+      | true ↦ λ e k. cc
+      | false ↦ λ e k. ⊎_elim (λ here. let no : test y ≡ false = exact y z here ∙ e in cc) (λ later. find-nothing test keys y exact k later passes) (or-cases (is_at (rank_cmp y) z) (has y keys) h)
+    ] refl none
+
+-- ---- the victim
+
+fits-exact : (layout : Layout) (s : State) (page : ℕ) → IsExact (fits layout s page)
+fits-exact layout s page x y h =
+    let same = rank-same x y h in
+    let P : ℕ → ℕ → Bool = λ n p. (named_of s p == n) && is_evictable layout s page p in
+    ap (λ n. P n x.1.0) same.0 ∙ ap (λ p. P y.0 p) same.1
+
+itself : (n : ℕ) → (n == n) ≡ true
+itself n = grind (arith, nat_tests)
+
+-- a page that may be evicted fits where it was last named, and stands there
+fits-own : (layout : Layout) (s : State) (page q : ℕ) → is_evictable layout s page q ≡ true → fits layout s page (rank (named_of s q) q) ≡ true
+fits-own layout s page q h = rw (itself (named_of s q), h) refl
+
+evictable-leaf : (layout : Layout) (s : State) (page q : ℕ) → is_evictable layout s page q ≡ true → is_leaf layout s q ≡ true
+evictable-leaf layout s page q h =
+    let free = loose layout s page q h in
+    leaf-whole layout s q (record { resident = free.resident; inner = free.no_root; bare = free.bare })
+
+-- of two that come no later than each other each is the other
+same-first : (s : State) (v w : ℕ) → IsStaler s v w → IsStaler s w v → v ≡ w
+same-first s v w (inl a) (inl b) = omega (arith, a, b)
+same-first s v w (inl a) (inr b) = omega (arith, a, b.0)
+same-first s v w (inr a) (inl b) = omega (arith, a.0, b)
+same-first s v w (inr a) (inr b) = omega (arith, a.1, b.1)
+
+page_of : Option Rank → Option ℕ
+page_of None = None
+page_of (Some place) = Some place.1.0
+
+-- the first of the leaves that fits is of the victim
+pub victim-found : (layout : Layout) (s : State) (page : ℕ) (order : BTreeSet Rank) (place : Rank) → length s.resident ≡ layout.pages → IsStrictlySortedBy rank_cmp order.keys → IsListed layout s order → find (fits layout s page) order.keys ≡ Some place → Some place.1.0 ≡ victim_for layout s page
+victim-found layout s page order place len sorted listed found = of_victim (victim_for layout s page) refl
+  where
+    told : (named_of s place.1.0 ≡ place.0) × (is_evictable layout s page place.1.0 ≡ true)
+    told =
+        let parts = and-both (named_of s place.1.0 == place.0) (is_evictable layout s page place.1.0) (find-passes (fits layout s page) order.keys place found) in
+        (same-eqb (named_of s place.1.0) place.0 parts.0, parts.1)
+
+    below : place.1.0 < layout.pages
+    below = below-pages layout s place.1.0 len (loose layout s page place.1.0 told.1).resident
+
+    staler : (w : ℕ) → IsFirst place (rank (named_of s w) w) → IsStaler s place.1.0 w
+    staler w (inl less) = inl (omega (arith, told.0, less))
+    staler w (inr (same, later)) = inr (omega (arith, told.0, same), later)
+
+    of_victim : (o : Option ℕ) → victim_for layout s page ≡ o → Some place.1.0 ≡ victim_for layout s page
+    of_victim None is = absurd (HasNoVictim-from_none layout s page is place.1.0 below told.1)
+    of_victim (Some w) is =
+        let victim = IsVictim-from_some layout s page w is in
+        let first = find-first (fits layout s page) order.keys place (rank (named_of s w) w) (fits-exact layout s page) sorted found (listed w (evictable-leaf layout s page w victim.evictable)) (fits-own layout s page w victim.evictable) in
+        let same = same-first s place.1.0 w (staler w first) (victim.first place.1.0 below told.1) in
+        ap Some same ∙ sym is
+
+-- where none of them fits there is no victim
+pub victim-none : (layout : Layout) (s : State) (page : ℕ) (order : BTreeSet Rank) → IsListed layout s order → find (fits layout s page) order.keys ≡ None → None ≡ victim_for layout s page
+victim-none layout s page order listed none = of_victim (victim_for layout s page) refl
+  where
+    of_victim : (o : Option ℕ) → victim_for layout s page ≡ o → None ≡ victim_for layout s page
+    of_victim None is = sym is
+    of_victim (Some w) is =
+        let victim = IsVictim-from_some layout s page w is in
+        absurd (find-nothing (fits layout s page) order.keys (rank (named_of s w) w) (fits-exact layout s page) none (listed w (evictable-leaf layout s page w victim.evictable)) (fits-own layout s page w victim.evictable))
+
+-- one place fewer that doesn't fit
+pub find-later : (test : Rank → Bool) (left rest all : List Rank) (place : Rank) → left ≡ place ∷ rest → test place ≡ false → find test left ≡ find test all → find test rest ≡ find test all
+find-later test left rest all place is fails same =
+    let here : find test left ≡ cond (test place) (Some place) (find test rest) = ap (find test) is in
+    let skipped : cond (test place) (Some place) (find test rest) ≡ find test rest = ap (λ b. cond b (Some place) (find test rest)) fails in
+    sym skipped ∙ (sym here ∙ same)
+
+pub find-here : (test : Rank → Bool) (left rest all : List Rank) (place : Rank) → left ≡ place ∷ rest → test place ≡ true → find test left ≡ find test all → find test all ≡ Some place
+find-here test left rest all place is passes same =
+    let here : find test left ≡ cond (test place) (Some place) (find test rest) = ap (find test) is in
+    sym same ∙ (here ∙ ap (λ b. cond b (Some place) (find test rest)) passes)
+
+pub find-end : (test : Rank → Bool) (left all : List Rank) → left ≡ [] → find test left ≡ find test all → find test all ≡ None
+find-end test left all is same = sym same ∙ ap (find test) is

@@ -1,0 +1,7 @@
+use Rattle.std.proofs.Common.{◌∙◌}
+use Rattle.residency.proofs.pools.Pool.residency.Goals as goal
+
+pub returns : goal.returns
+returns c =
+    let stands = c.self.invariant.keeps.stands in
+    rw (← c.self.view_is, ← stands.shows) (c.of.ensures ∙ c.in_ok-residents.ensures)
