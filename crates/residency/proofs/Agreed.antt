@@ -1,35 +1,34 @@
 -- What is kept by index stays in agreement with the live frames as entries change them.
 use Rattle.std.proofs.Common.{◌≡◌, ◌≢◌, ℕ, zero, suc, ◌+◌, ◌==◌, ◌<◌, ◌≤◌, List, [], ◌∷◌, Bool, true, false, not, cond, ◌&&◌, ◌||◌, ◌⊎◌, inl, inr, ⊎_elim, Option, Some, None, nat_cmp, nat_eq, length, get_or, set, replicate, map, filter, fold, refl, sym, ap, ◌∙◌, subst, arith, length-set, get_or-set_same, get_or-set_other}
-use Rattle.std.specs.BTreeMap.{get, is_at}
+use Rattle.std.specs.BTreeMap.{get, is_at, values}
 use Rattle.std.specs.BTreeSet as tree
 use Rattle.std.specs.List.{list_any, list_all}
 use Rattle.std.specs.Option.{IsSome, is_some, option_map}
 use Rattle.std.specs.Result.{OnErr, OnOk, is_err}
 use Rattle.std.proofs.Common.{Result, Ok, Err}
 use Rattle.std.proofs.lemmas.Bool.Decides.{nat_tests, Decides-eqb}
-use Rattle.residency.specs.Agreement.{Agrees}
+use Rattle.residency.specs.Agreement.{Agrees, Stands}
 use Rattle.residency.specs.declared.frames.Frames.{Frames}
 use Rattle.residency.specs.declared.frames.Hold.{Hold}
 use Rattle.residency.specs.declared.standings.Standing.{Standing}
 use Rattle.residency.specs.declared.wants.Want.{Want}
+use Rattle.residency.specs.declared.wants.Wants.{Wants}
 use Rattle.residency.specs.Frame.{Frame}
 use Rattle.residency.specs.Holding.{IsCounted, IsHold, AreHold, IsIndexed, NamesAt, NamesAll, frame_at, covers, pins_of, moment_in, moment_of}
+use Rattle.residency.specs.Queue.{IsQueued, IsOwned, IsAsBefore, stays, want_at}
 use Rattle.residency.specs.Shown.{shown}
-use Rattle.residency.specs.State.{State, put, name_at, marked, waits_for, with_installed}
+use Rattle.residency.specs.State.{State, put, name_at, marked, waits_for, wants_of_others, is_live, with_installed}
 use Rattle.residency.specs.Victim.{is_pinned}
 use Rattle.residency.proofs.Counts.{is_at-eqb}
 use Rattle.std.proofs.lemmas.List.{length-replicate}
 use Rattle.residency.proofs.Flags.{get_or-set_cases, place-within}
-use Rattle.residency.proofs.Held.{pinned-named}
+use Rattle.residency.proofs.Held.{pinned-named, live-found}
+use Rattle.residency.proofs.Queued.{IsQueued-later, IsOwned-names, IsOwned-narrower}
+use Rattle.residency.proofs.Renewed.{values-same}
 use Rattle.residency.proofs.Numbered.{frame_at-put, frame_at-others, frame_at-map, AreApart-put, AreApart-others, AreApart-map, found-number, any-found}
 use Rattle.residency.proofs.Pinned.{marked-listed}
 use Rattle.residency.proofs.Tests.{same-eqb, and-both, or-cases, all-at_any}
-
-pub same-bools : (a b : Bool) → (a ≡ true → b ≡ true) → (b ≡ true → a ≡ true) → a ≡ b
-same-bools true true h k = refl
-same-bools true false h k = sym (h refl)
-same-bools false true h k = k refl
-same-bools false false h k = refl
+pub use Rattle.residency.proofs.Tests.{same-bools}
 
 or-false : (a b : Bool) → a ≡ false → b ≡ false → (a || b) ≡ false
 or-false true b h k = cc
@@ -86,8 +85,10 @@ named-put key n w hold h =
     elim (is_at (nat_cmp key) n) as (λ b. cond b (Some w) h ≡ Some hold → (hold ≡ w) ⊎ (h ≡ Some hold)) [ true ↦ λ e. inl cc | false ↦ λ e. inr e ]
 
 pub Agrees-put : (k k' : ℕ) (frames : List Frame) (x y : Standing) (f : Frame) (w : Hold) → Agrees k frames x → y.places ≡ x.places → y.since ≡ x.since → ((n : ℕ) → get nat_cmp y.frames.holds n ≡ cond (is_at (nat_cmp f.number) n) (Some w) (get nat_cmp x.frames.holds n)) → IsIndexed y.frames → length y.frames.counts.items ≡ length x.frames.counts.items →
-    IsHold x.places.resident.items x.since.items f w → ((page : ℕ) → tree.contains nat_cmp w.pages page ≡ true → get_or x.places.resident.items page false ≡ true) → ((m : ℕ) → IsSome (get nat_cmp y.frames.moments m) → m < k') → k ≤ k' → Agrees k' (put f frames) y
-Agrees-put k k' frames x y f w agrees places since at indexed len is named earlier le = record {
+    IsHold x.places.resident.items x.since.items f w → ((page : ℕ) → tree.contains nat_cmp w.pages page ≡ true → get_or x.places.resident.items page false ≡ true) → ((m : ℕ) → IsSome (get nat_cmp y.frames.moments m) → m < k') → k ≤ k' → IsQueued k' y.wants → IsOwned y.frames.holds y.wants → Agrees k' (put f frames) y
+Agrees-put k k' frames x y f w agrees places since at indexed len is named earlier le queued owned = record {
+  queued = queued;
+  owned = owned;
   counted = rw places agrees.counted;
   indexed = indexed;
   apart = AreApart-put f frames agrees.apart;
@@ -110,8 +111,10 @@ named-gone key n hold h =
     elim (is_at (nat_cmp key) n) as (λ b. cond b None h ≡ Some hold → h ≡ Some hold) [ true ↦ λ e. cc | false ↦ λ e. e ]
 
 pub Agrees-removed : (k k' : ℕ) (frames : List Frame) (x y : Standing) (frame : ℕ) → Agrees k frames x → y.places ≡ x.places → y.since ≡ x.since → ((n : ℕ) → get nat_cmp y.frames.holds n ≡ cond (is_at (nat_cmp frame) n) None (get nat_cmp x.frames.holds n)) → IsIndexed y.frames → length y.frames.counts.items ≡ length x.frames.counts.items →
-    ((m : ℕ) → IsSome (get nat_cmp y.frames.moments m) → IsSome (get nat_cmp x.frames.moments m)) → k ≤ k' → Agrees k' (filter (λ f. not (f.number == frame)) frames) y
-Agrees-removed k k' frames x y frame agrees places since at indexed len moments le = record {
+    ((m : ℕ) → IsSome (get nat_cmp y.frames.moments m) → IsSome (get nat_cmp x.frames.moments m)) → k ≤ k' → IsQueued k' y.wants → IsOwned y.frames.holds y.wants → Agrees k' (filter (λ f. not (f.number == frame)) frames) y
+Agrees-removed k k' frames x y frame agrees places since at indexed len moments le queued owned = record {
+  queued = queued;
+  owned = owned;
   counted = rw places agrees.counted;
   indexed = indexed;
   apart = AreApart-others frame frames agrees.apart;
@@ -127,8 +130,10 @@ Agrees-removed k k' frames x y frame agrees places since at indexed len moments 
 
 -- nothing changed of the frames and of the pages
 pub Agrees-same : (k k' : ℕ) (frames : List Frame) (x y : Standing) → Agrees k frames x → y.places ≡ x.places → y.since ≡ x.since → ((n : ℕ) → get nat_cmp y.frames.holds n ≡ get nat_cmp x.frames.holds n) → IsIndexed y.frames → length y.frames.counts.items ≡ length x.frames.counts.items →
-    ((m : ℕ) → IsSome (get nat_cmp y.frames.moments m) → IsSome (get nat_cmp x.frames.moments m)) → k ≤ k' → Agrees k' frames y
-Agrees-same k k' frames x y agrees places since at indexed len moments le = record {
+    ((m : ℕ) → IsSome (get nat_cmp y.frames.moments m) → IsSome (get nat_cmp x.frames.moments m)) → k ≤ k' → IsQueued k' y.wants → IsOwned y.frames.holds y.wants → Agrees k' frames y
+Agrees-same k k' frames x y agrees places since at indexed len moments le queued owned = record {
+  queued = queued;
+  owned = owned;
   counted = rw places agrees.counted;
   indexed = indexed;
   apart = agrees.apart;
@@ -138,6 +143,22 @@ Agrees-same k k' frames x y agrees places since at indexed len moments le = reco
   came = λ page. rw since (omega (arith, le, agrees.came page));
   since_a_page = rw (since, places) agrees.since_a_page;
   count_a_page = rw places (len ∙ agrees.count_a_page);
+}
+
+-- a load ended
+pub Agrees-unloaded : (k k' : ℕ) (frames : List Frame) (x y : Standing) → Agrees k frames x → y.places.resident.items ≡ x.places.resident.items → IsCounted y.places → y.since ≡ x.since → y.frames ≡ x.frames → k ≤ k' → IsQueued k' y.wants → IsOwned y.frames.holds y.wants → Agrees k' frames y
+Agrees-unloaded k k' frames x y agrees resident counted since same le queued owned = record {
+  counted = counted;
+  indexed = rw same agrees.indexed;
+  apart = agrees.apart;
+  hold = λ n. rw (resident, since, same) (agrees.hold n);
+  named = λ n hold page h has. rw resident (agrees.named n hold page (rw same at h) has);
+  earlier = λ m some. omega (arith, le, agrees.earlier m (rw same at some));
+  came = λ page. rw since (omega (arith, le, agrees.came page));
+  queued = queued;
+  owned = owned;
+  since_a_page = rw (since, resident) agrees.since_a_page;
+  count_a_page = rw (same, resident) agrees.count_a_page;
 }
 
 -- ---- a page that was evicted
@@ -167,8 +188,10 @@ hold-evicted resident since v (Some f) (Some hold) none was = record {
     first-false true b h = cc
     first-false false b h = refl
 
-pub Agrees-evicted : (k k' : ℕ) (frames : List Frame) (x y : Standing) (v : ℕ) → Agrees k frames x → is_pinned (shown x frames) v ≡ false → y.places.resident.items ≡ set x.places.resident.items v false → IsCounted y.places → y.since ≡ x.since → y.frames ≡ x.frames → k ≤ k' → Agrees k' frames y
-Agrees-evicted k k' frames x y v agrees loose resident counted since same le = record {
+pub Agrees-evicted : (k k' : ℕ) (frames : List Frame) (x y : Standing) (v : ℕ) → Agrees k frames x → is_pinned (shown x frames) v ≡ false → y.places.resident.items ≡ set x.places.resident.items v false → IsCounted y.places → y.since ≡ x.since → y.frames ≡ x.frames → y.wants ≡ x.wants → k ≤ k' → Agrees k' frames y
+Agrees-evicted k k' frames x y v agrees loose resident counted since same wants le = record {
+  queued = rw wants (IsQueued-later k k' x.wants le agrees.queued);
+  owned = rw (same, wants) agrees.owned;
   counted = counted;
   indexed = rw same agrees.indexed;
   apart = agrees.apart;
@@ -202,15 +225,18 @@ and-true : (a : Bool) → (a && true) ≡ a
 and-true true = refl
 and-true false = refl
 
-pub IsHold-pinned : (k : ℕ) (resident : List Bool) (since : List ℕ) (frame by : ℕ) (w : Hold) → ((page : ℕ) → get_or since page 0 ≤ k) → w.owner ≡ by → w.moment ≡ Some k → w.pages.keys ≡ [] → IsHold resident since (record { number = frame; owner = by; pins = resident }) w
-IsHold-pinned k resident since frame by w came owner moment none = record {
+pub IsHold-pinned : (k : ℕ) (resident : List Bool) (since : List ℕ) (frame by : ℕ) (w : Hold) → ((page : ℕ) → get_or since page 0 ≤ k) → w.owner ≡ by → w.moment ≡ Some k → ((page : ℕ) → tree.contains nat_cmp w.pages page ≡ true → get_or resident page false ≡ true) → IsHold resident since (record { number = frame; owner = by; pins = resident }) w
+IsHold-pinned k resident since frame by w came owner moment named = record {
   owner = sym owner;
   pin_a_page = refl;
   pins = λ page.
       let all : covers w.moment (get_or since page 0) ≡ true = ap (λ m. covers m (get_or since page 0)) moment ∙ covers-now k (get_or since page 0) (came page) in
-      let nothing : tree.contains nat_cmp w.pages page ≡ false = ap (λ keys. list_any (is_at (nat_cmp page)) keys) none in
-      rw (nothing, all) (sym (and-true (get_or resident page false)));
+      rw all (either (tree.contains nat_cmp w.pages page) (get_or resident page false) (named page));
 }
+  where
+    either : (a b : Bool) → (a ≡ true → b ≡ true) → b ≡ (a || (b && true))
+    either true b h = h refl
+    either false b h = sym (and-true b)
 
 pub IsHold-named : (resident : List Bool) (since : List ℕ) (frame by : ℕ) (pages : List ℕ) (w : Hold) → list_all (λ q. get_or resident q false) pages ≡ true → w.owner ≡ by → w.moment ≡ None → ((page : ℕ) → tree.contains nat_cmp w.pages page ≡ list_any (nat_eq page) pages) → IsHold resident since (record { number = frame; owner = by; pins = marked (length resident) pages }) w
 IsHold-named resident since frame by pages w all owner moment named = record {
@@ -279,8 +305,10 @@ zeros zero page = refl
 zeros (suc n) zero = refl
 zeros (suc n) (suc page) = zeros n page
 
-pub Agrees-opening : (n : ℕ) (x : Standing) → IsCounted x.places → IsIndexed x.frames → ((f : ℕ) → get nat_cmp x.frames.holds f ≡ None) → x.since.items ≡ replicate n 0 → length x.places.resident.items ≡ n → length x.frames.counts.items ≡ n → Agrees 0 [] x
-Agrees-opening n x counted indexed none since pages counts = record {
+pub Agrees-opening : (n : ℕ) (x : Standing) → IsCounted x.places → IsIndexed x.frames → ((f : ℕ) → get nat_cmp x.frames.holds f ≡ None) → x.since.items ≡ replicate n 0 → length x.places.resident.items ≡ n → length x.frames.counts.items ≡ n → IsQueued 0 x.wants → ((ticket : ℕ × ℕ) → want_at x.wants.queue ticket ≡ None) → Agrees 0 [] x
+Agrees-opening n x counted indexed none since pages counts queued empty = record {
+  queued = queued;
+  owned = λ ticket want at. let no : None ≡ Some want = sym (empty ticket) ∙ at in cc;
   counted = counted;
   indexed = indexed;
   apart = tt;
@@ -304,7 +332,7 @@ shows-with x frames f named = record {
   resident = x.places.resident.items;
   loading = x.places.loading.items;
   frames = put f frames;
-  wants = x.wants.items;
+  wants = values x.wants.queue;
   named = named;
   stopped = x.stopped;
   entries = x.entries;
@@ -313,6 +341,23 @@ shows-with x frames f named = record {
 -- the state with other wants
 abbrev pub with-wants : State → List Want → State
 with-wants s wants = record s { wants = wants }
+
+-- ---- wants that were refused, and those of others
+
+-- nothing changed but how what is wanted is kept
+pub Stands-refused : (k : ℕ) (frames : List Frame) (x : Standing) (wants : Wants) → Agrees k frames x → IsAsBefore x.wants wants → IsQueued k wants → Stands k (record x { wants = wants }) (shown x frames)
+Stands-refused k frames x wants agrees same queued = record {
+  shows = ap (λ (ws : List Want). with-wants (shown x frames) ws) (values-same x.wants.queue wants.queue agrees.queued.ordered queued.ordered same.queue);
+  agrees = Agrees-same k k frames x (record x { wants = wants }) agrees refl refl (λ n. refl) agrees.indexed refl (λ m some. some) (omega arith) queued (IsOwned-narrower x.frames.holds x.wants wants (λ q want at. sym (same.queue q) ∙ at) (ap (λ ended. ended.items) same.ended) agrees.owned);
+}
+
+filter-alike : (p q : Want → Bool) (ws : List Want) → ((w : Want) → p w ≡ q w) → filter p ws ≡ filter q ws
+filter-alike p q [] same = refl
+filter-alike p q (w ∷ ws) same = rw (same w, filter-alike p q ws same) refl
+
+pub others-stay : (k : ℕ) (frames : List Frame) (x : Standing) (frame : ℕ) → Agrees k frames x → filter (stays x.frames.holds frame) (values x.wants.queue) ≡ wants_of_others (shown x frames) frame
+others-stay k frames x frame agrees =
+    filter-alike (stays x.frames.holds frame) (λ w. not (w.frame == frame) && is_live frames w.frame) (values x.wants.queue) (λ w. ap (λ b. not (w.frame == frame) && b) (sym (live-found k frames x w.frame agrees)))
 
 -- ---- a page that was installed
 
@@ -407,18 +452,20 @@ named-after (Some old) (Some new) waits page p hold at names has =
     by_test true e h = inl (same-eqb page p (and-both waits (nat_eq page p) e).1)
     by_test false e h = inr (old, refl, h)
 
-pub Agrees-installed : (k : ℕ) (frames : List Frame) (x y : Standing) (page : ℕ) → Agrees k frames x → get_or x.places.resident.items page false ≡ false → page < length x.places.resident.items → y.places.resident.items ≡ set x.places.resident.items page true → IsCounted y.places → y.since.items ≡ set x.since.items page (k + 1) → NamesAll x.frames.holds y.frames.holds x.wants.items page true → y.frames.moments ≡ x.frames.moments → IsIndexed y.frames → length y.frames.counts.items ≡ length x.frames.counts.items →
-    Agrees (k + 1) (map (with_installed x.wants.items page) frames) y
-Agrees-installed k frames x y page agrees absent below resident counted since names moments indexed len = record {
+pub Agrees-installed : (k : ℕ) (frames : List Frame) (x y : Standing) (page : ℕ) → Agrees k frames x → get_or x.places.resident.items page false ≡ false → page < length x.places.resident.items → y.places.resident.items ≡ set x.places.resident.items page true → IsCounted y.places → y.since.items ≡ set x.since.items page (k + 1) → NamesAll x.frames.holds y.frames.holds (λ f. waits_for (values x.wants.queue) f page) page true → y.frames.moments ≡ x.frames.moments → IsIndexed y.frames → length y.frames.counts.items ≡ length x.frames.counts.items → IsQueued (k + 1) y.wants → IsOwned y.frames.holds y.wants →
+    Agrees (k + 1) (map (with_installed (values x.wants.queue) page) frames) y
+Agrees-installed k frames x y page agrees absent below resident counted since names moments indexed len queued owned = record {
+  queued = queued;
+  owned = owned;
   counted = counted;
   indexed = indexed;
-  apart = AreApart-map (with_installed x.wants.items page) (installed-number x.wants.items page) frames agrees.apart;
-  hold = λ n. rw (resident, since, frame_at-map n (with_installed x.wants.items page) (installed-number x.wants.items page) frames)
-      (hold-installed x.places.resident.items x.since.items k page n x.wants.items (frame_at n frames) (get nat_cmp x.frames.holds n) (get nat_cmp y.frames.holds n) (λ f at. found-number n frames f at) (λ hold at. installed n hold at) (agrees.hold n) (names n));
+  apart = AreApart-map (with_installed (values x.wants.queue) page) (installed-number (values x.wants.queue) page) frames agrees.apart;
+  hold = λ n. rw (resident, since, frame_at-map n (with_installed (values x.wants.queue) page) (installed-number (values x.wants.queue) page) frames)
+      (hold-installed x.places.resident.items x.since.items k page n (values x.wants.queue) (frame_at n frames) (get nat_cmp x.frames.holds n) (get nat_cmp y.frames.holds n) (λ f at. found-number n frames f at) (λ hold at. installed n hold at) (agrees.hold n) (names n));
   named = λ n hold p at has. rw resident (⊎_elim
       (λ same. rw (← same) (get_or-set_same x.places.resident.items page true false below))
       (λ (was, old, had). stays p (agrees.named n was p old had))
-      (named-after (get nat_cmp x.frames.holds n) (get nat_cmp y.frames.holds n) (waits_for x.wants.items n page) page p hold at (names n) has));
+      (named-after (get nat_cmp x.frames.holds n) (get nat_cmp y.frames.holds n) (waits_for (values x.wants.queue) n page) page p hold at (names n) has));
   earlier = λ m some. omega (arith, agrees.earlier m (rw moments at some));
   came = λ p. rw since (⊎_elim (λ same. omega (arith, same, agrees.came p)) (λ (at, here). omega (arith, here)) (get_or-set_cases x.since.items page p (k + 1) 0));
   since_a_page = rw (since, resident) (length-set x.since.items page (k + 1) ∙ (agrees.since_a_page ∙ sym (length-set x.places.resident.items page true)));
@@ -460,12 +507,14 @@ unnamed-same resident since page waits (Some f) (Some old) (Some new) none was n
       was.pins p ∙ rw (same, moment) refl;
 }
 
-pub Agrees-unnamed : (k : ℕ) (frames : List Frame) (x y : Standing) (page : ℕ) → Agrees k frames x → get_or x.places.resident.items page false ≡ false → y.places ≡ x.places → y.since ≡ x.since → NamesAll x.frames.holds y.frames.holds x.wants.items page false → y.frames.moments ≡ x.frames.moments → IsIndexed y.frames → length y.frames.counts.items ≡ length x.frames.counts.items → Agrees k frames y
-Agrees-unnamed k frames x y page agrees absent places since names moments indexed len = record {
+pub Agrees-unnamed : (k : ℕ) (frames : List Frame) (x y : Standing) (page : ℕ) → Agrees k frames x → get_or x.places.resident.items page false ≡ false → y.places ≡ x.places → y.since ≡ x.since → NamesAll x.frames.holds y.frames.holds (λ f. waits_for (values x.wants.queue) f page) page false → y.frames.moments ≡ x.frames.moments → IsIndexed y.frames → length y.frames.counts.items ≡ length x.frames.counts.items → y.wants ≡ x.wants → Agrees k frames y
+Agrees-unnamed k frames x y page agrees absent places since names moments indexed len wants = record {
+  queued = rw wants agrees.queued;
+  owned = rw wants (IsOwned-names x.frames.holds y.frames.holds (λ f. waits_for (values x.wants.queue) f page) page false x.wants names agrees.owned);
   counted = rw places agrees.counted;
   indexed = indexed;
   apart = agrees.apart;
-  hold = λ n. rw (places, since) (unnamed-same x.places.resident.items x.since.items page (waits_for x.wants.items n page) (frame_at n frames) (get nat_cmp x.frames.holds n) (get nat_cmp y.frames.holds n) (λ hold at. none n hold at) (agrees.hold n) (names n));
+  hold = λ n. rw (places, since) (unnamed-same x.places.resident.items x.since.items page (waits_for (values x.wants.queue) n page) (frame_at n frames) (get nat_cmp x.frames.holds n) (get nat_cmp y.frames.holds n) (λ hold at. none n hold at) (agrees.hold n) (names n));
   named = λ n hold p at has. rw places (named n (get nat_cmp x.frames.holds n) (get nat_cmp y.frames.holds n) hold p refl at (names n) has);
   earlier = λ m some. agrees.earlier m (rw moments at some);
   came = λ p. rw since (agrees.came p);
@@ -476,16 +525,24 @@ Agrees-unnamed k frames x y page agrees absent places since names moments indexe
     none : (n : ℕ) (hold : Hold) → get nat_cmp x.frames.holds n ≡ Some hold → tree.contains nat_cmp hold.pages page ≡ false
     none n hold at = elim (tree.contains nat_cmp hold.pages page) as (λ b. tree.contains nat_cmp hold.pages page ≡ b → b ≡ false) [ true ↦ λ has. let here = agrees.named n hold page at has in cc | false ↦ λ no. refl ] refl
 
-    named : (n : ℕ) (old new : Option Hold) (hold : Hold) (p : ℕ) → get nat_cmp x.frames.holds n ≡ old → new ≡ Some hold → NamesAt old new (waits_for x.wants.items n page) page false → tree.contains nat_cmp hold.pages p ≡ true → get_or x.places.resident.items p false ≡ true
+    named : (n : ℕ) (old new : Option Hold) (hold : Hold) (p : ℕ) → get nat_cmp x.frames.holds n ≡ old → new ≡ Some hold → NamesAt old new (waits_for (values x.wants.queue) n page) page false → tree.contains nat_cmp hold.pages p ≡ true → get_or x.places.resident.items p false ≡ true
     named n old None hold p is at names has = cc
     named n None (Some new) hold p is at names has = absurd names
     named n (Some old) (Some new) hold p is at names has =
         let same : new ≡ hold = cc in
-        agrees.named n old p is (sym (unnamed-at page p (waits_for x.wants.items n page) old new (none n old is) (names.2 p)) ∙ (ap (λ h. tree.contains nat_cmp h.pages p) same ∙ has))
+        agrees.named n old p is (sym (unnamed-at page p (waits_for (values x.wants.queue) n page) old new (none n old is) (names.2 p)) ∙ (ap (λ h. tree.contains nat_cmp h.pages p) same ∙ has))
 
 pub from_ok : {T E : Type 0} (r : Result T E) (P : Type 0) → is_err r ≡ false → OnOk r P → P
 from_ok (Ok v) P e h = h
 from_ok (Err x) P e h = cc
+
+pub on_ok_of : {T E : Type 0} (r : Result T E) (P : Type 0) → (is_err r ≡ false → P) → OnOk r P
+on_ok_of (Ok v) P h = h refl
+on_ok_of (Err x) P h = tt
+
+pub on_err_of : {T E : Type 0} (r : Result T E) (P : Type 0) → (is_err r ≡ true → P) → OnErr r P
+on_err_of (Ok v) P h = tt
+on_err_of (Err x) P h = h refl
 
 pub from_err : {T E : Type 0} (r : Result T E) (P : Type 0) → is_err r ≡ true → OnErr r P → P
 from_err (Ok v) P e h = cc

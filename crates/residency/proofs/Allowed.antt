@@ -3,13 +3,13 @@ use Rattle.std.proofs.Common.{◌≡◌, ℕ, ◌==◌, ◌<◌, List, [], ◌�
 use Rattle.std.specs.List.{list_all}
 use Rattle.std.specs.Option.{IfSome, is_some}
 use Rattle.residency.specs.declared.entries.Entry.{Entry}
-use Rattle.residency.specs.declared.entries.What.TheVariants.{Settle, Narrow, Take}
+use Rattle.residency.specs.declared.entries.What.TheVariants.{Settle, Ask, Narrow, Take}
 use Rattle.residency.specs.declared.layouts.Layout.{Layout}
-use Rattle.residency.specs.Layout.{ascends}
+use Rattle.residency.specs.Layout.{ascends, all_below}
 use Rattle.residency.specs.Next.{is_take, next_in}
 use Rattle.residency.specs.Rules.{allows, owns, pins, loads, is_page_list, all_resident, any_resident}
 use Rattle.residency.specs.Sound.{IsSound}
-use Rattle.residency.specs.State.{State, is_resident}
+use Rattle.residency.specs.State.{State, is_live, is_resident}
 use Rattle.residency.specs.Victim.{is_pinned}
 use Rattle.residency.proofs.Choices.{IsTaken, IsTaken-from_next}
 use Rattle.residency.proofs.Flags.{place-within}
@@ -22,6 +22,25 @@ settled-resident layout s journal by frame pages missing h =
     let b = and-both (is_page_list layout pages) (is_page_list layout missing && (all_resident s pages && not (any_resident s missing))) a.1 in
     let c = and-both (is_page_list layout missing) (all_resident s pages && not (any_resident s missing)) b.1 in
     (and-both (all_resident s pages) (not (any_resident s missing)) c.1).0
+
+owned-live : (s : State) (by frame : ℕ) → owns s by frame ≡ true → is_live s.frames frame ≡ true
+owned-live s by frame h =
+    any-weaker (λ f. (f.number == frame) && (f.owner == by)) (λ f. f.number == frame) s.frames (λ f k. (and-both (f.number == frame) (f.owner == by) k).0) h
+
+-- who settles is live, and what it misses ascends
+pub settled-missing : (layout : Layout) (s : State) (journal : List Entry) (by frame : ℕ) (pages missing : List ℕ) → allows layout s journal by (Settle frame pages missing) ≡ true → (is_live s.frames frame ≡ true) × (ascends missing ≡ true)
+settled-missing layout s journal by frame pages missing h =
+    let a = and-both (owns s by frame) (is_page_list layout pages && (is_page_list layout missing && (all_resident s pages && not (any_resident s missing)))) h in
+    let b = and-both (is_page_list layout pages) (is_page_list layout missing && (all_resident s pages && not (any_resident s missing))) a.1 in
+    let c = and-both (is_page_list layout missing) (all_resident s pages && not (any_resident s missing)) b.1 in
+    (owned-live s by frame a.0, (and-both (ascends missing) (all_below layout.pages missing) c.0).0)
+
+-- who asks is live, and what it asks for ascends
+pub asked-pages : (layout : Layout) (s : State) (journal : List Entry) (by frame : ℕ) (pages : List ℕ) → allows layout s journal by (Ask frame pages) ≡ true → (is_live s.frames frame ≡ true) × (ascends pages ≡ true)
+asked-pages layout s journal by frame pages h =
+    let a = and-both (owns s by frame) (is_page_list layout pages && not (any_resident s pages)) h in
+    let b = and-both (is_page_list layout pages) (not (any_resident s pages)) a.1 in
+    (owned-live s by frame a.0, (and-both (ascends pages) (all_below layout.pages pages) b.0).0)
 
 all-weaker : (strong weak : ℕ → Bool) (xs : List ℕ) → ((x : ℕ) → strong x ≡ true → weak x ≡ true) → list_all strong xs ≡ true → list_all weak xs ≡ true
 all-weaker strong weak [] weakens h = refl

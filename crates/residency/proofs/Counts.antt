@@ -1,19 +1,19 @@
 -- How many frames pin a page by name, after one of them changed, began or ended.
-use Rattle.std.proofs.Common.{◌≡◌, ℕ, zero, suc, get_or, ◌+◌, ◌-◌, ◌<◌, ◌≤◌, ◌^◌, List, [], ◌∷◌, Bool, true, false, cond, not, ◌||◌, ◌==◌, nat_eq, nat_cmp, Option, Some, None, length, min, refl, sym, ap, ◌∙◌, arith}
+use Rattle.std.proofs.Common.{◌≡◌, ℕ, zero, suc, get_or, ◌+◌, ◌-◌, ◌<◌, ◌≤◌, ◌^◌, List, [], ◌∷◌, Bool, true, false, cond, not, ◌||◌, ◌==◌, nat_eq, nat_cmp, nat_lt, ◌≢◌, Option, Some, None, length, min, refl, sym, ap, ◌∙◌, arith}
 use Rattle.std.specs.BTreeMap.{BTreeMap, get, IsOrdered, insert_entry, is_at}
 use Rattle.std.specs.BTreeSet as set
 use Rattle.std.specs.List.{list_any, count_by, sum_by, AllByRecursion, Contains}
 use Rattle.std.proofs.lemmas.Map.Views.{btree_map_get_iff}
 use Rattle.std.proofs.lemmas.Map.Lookups.{exact_unsigned}
-use Rattle.std.specs.declared.cmp.Ordering.TheVariants.{Less}
+use Rattle.std.specs.declared.cmp.Ordering.TheVariants.{Less, Equal}
 use Rattle.std.specs.Ordering.{is_eq}
 use Rattle.std.proofs.lemmas.List.Sums.{sum_by-cons}
 use Rattle.residency.proofs.Tests.{same-eqb}
 use Rattle.std.specs.List.Sorted.{IsStrictlySortedBy}
-use Rattle.std.specs.Map.{set_value, remove_entry, values_of}
+use Rattle.std.specs.Map.{keys_of, set_value, remove_entry, values_of}
 use Rattle.std.specs.Option.{unwrap_or, option_map}
 use Rattle.std.specs.Cmp.{nat_cmp_total}
-use Rattle.std.proofs.lemmas.Bool.Decides.{nat_tests}
+use Rattle.std.proofs.lemmas.Bool.Decides.{nat_tests, Decides-eqb}
 use Rattle.std.proofs.lemmas.Map.Entries.{sum_by-set_value, sum_by-insert_entry, sum_by-remove_entry}
 use Rattle.residency.specs.declared.frames.Hold.{Hold}
 use Rattle.residency.specs.Holding.{one, named_by, named_count}
@@ -72,7 +72,7 @@ pub named_count-removed : (page key : ℕ) (old new : BTreeMap ℕ Hold) → new
 named_count-removed page key old new removed =
     ap (λ n. named_count page new + n) (sym (has_before-named_by page (get nat_cmp old key))) ∙ (ap (λ es. sum_by (has page) (values_of es) + has_before page (get nat_cmp old key)) removed ∙ sum_by-remove_entry (has page) (is_at (nat_cmp key)) old.entries)
 
-one-most : (b : Bool) → one b ≤ 1
+pub one-most : (b : Bool) → one b ≤ 1
 one-most true = omega arith
 one-most false = omega arith
 
@@ -206,6 +206,47 @@ uncounted-named page holds k hold none at =
     let most = named_count-has page k holds in
     let here : named_by page (get nat_cmp holds k) ≡ has page hold = ap (named_by page) at in
     elim (set.contains nat_cmp hold.pages page) as (λ b. set.contains nat_cmp hold.pages page ≡ b → b ≡ false) [ true ↦ λ e. let yes : has page hold ≡ 1 = ap one e in absurd (omega (arith, most, here, yes, none)) | false ↦ λ e. refl ] refl
+
+-- ---- a count above 1 is of some other frame too
+
+abbrev IsNamedBy : ℕ → (ℕ → Type 0) → List (ℕ × Hold) → Type 0
+IsNamedBy page P es = (k : ℕ) × (hold : Hold) × Contains es (k, hold) × P k × (set.contains nat_cmp hold.pages page ≡ true)
+
+further : (page : ℕ) (P : ℕ → Type 0) (e : ℕ × Hold) (es : List (ℕ × Hold)) → IsNamedBy page P es → IsNamedBy page P (e ∷ es)
+further page P e es (k, hold, (i, below, at), so, named) = (k, hold, (suc i, omega (arith, below), at), so, named)
+
+later-entry : (page low : ℕ) (es : List (ℕ × Hold)) → AllByRecursion (λ y. nat_cmp low y ≡ Less) (keys_of es) → 0 < sum_by (has page) (values_of es) → IsNamedBy page (λ k. nat_cmp low k ≡ Less) es
+later-entry page low [] all some = absurd (omega (arith, some))
+later-entry page low (e ∷ es) all some =
+    elim (set.contains nat_cmp e.1.pages page) as (λ b. set.contains nat_cmp e.1.pages page ≡ b → IsNamedBy page (λ k. nat_cmp low k ≡ Less) (e ∷ es)) [
+      | true ↦ λ here. (e.0, e.1, (0, omega arith, refl), all.0, here)
+      | false ↦ λ none. let gone : has page e.1 ≡ 0 = ap one none in let rest : 0 < sum_by (has page) (values_of es) = omega (arith, some, gone, sum_by-cons (has page) e.1 (values_of es)) in further page _ e es (later-entry page low es all.1 rest)
+    ] refl
+
+other-entry : (page frame : ℕ) (es : List (ℕ × Hold)) → IsStrictlySortedBy nat_cmp (keys_of es) → 1 < sum_by (has page) (values_of es) → IsNamedBy page (λ k. k ≢ frame) es
+unfolding IsStrictlySortedBy
+other-entry page frame [] sorted some = absurd (omega (arith, some))
+other-entry page frame (e ∷ es) sorted some =
+    elim (e.0 == frame) as (λ b. (e.0 == frame) ≡ b → IsNamedBy page (λ k. k ≢ frame) (e ∷ es)) [
+      | true ↦ λ own.
+          let same : e.0 ≡ frame = same-eqb e.0 frame own in
+          let rest : 0 < sum_by (has page) (values_of es) = omega (arith, some, one-most (set.contains nat_cmp e.1.pages page), sum_by-cons (has page) e.1 (values_of es)) in
+          let found = later-entry page e.0 es sorted.0 rest in
+          further page (λ k. k ≢ frame) e es (found.0, found.1, found.2, (λ is. let less : nat_cmp e.0 e.0 ≡ Less = rw (is, ← same) at found.3 in absurd (never-less e.0 less)), found.4)
+      | false ↦ λ apart.
+          elim (set.contains nat_cmp e.1.pages page) as (λ b. set.contains nat_cmp e.1.pages page ≡ b → IsNamedBy page (λ k. k ≢ frame) (e ∷ es)) [
+            | true ↦ λ here. (e.0, e.1, (0, omega arith, refl), (λ is. let yes : (e.0 == frame) ≡ true = (Decides-eqb e.0 frame).1 is in cc), here)
+            | false ↦ λ none. let gone : has page e.1 ≡ 0 = ap one none in let rest : 1 < sum_by (has page) (values_of es) = omega (arith, some, gone, sum_by-cons (has page) e.1 (values_of es)) in further page _ e es (other-entry page frame es sorted.1 rest)
+          ] refl
+    ] refl
+  where
+    never-less : (n : ℕ) → nat_cmp n n ≡ Less → ⊥
+    never-less n less = let no : nat_lt n n ≡ false = grind (arith, nat_tests) in let yes : (n == n) ≡ true = grind (arith, nat_tests) in let equal : nat_cmp n n ≡ Equal = rw (no, yes) refl in cc
+
+pub counted-other : (page frame : ℕ) (holds : BTreeMap ℕ Hold) → IsOrdered nat_cmp holds → 1 < named_count page holds → (k : ℕ) × (hold : Hold) × (k ≢ frame) × (get nat_cmp holds k ≡ Some hold) × (set.contains nat_cmp hold.pages page ≡ true)
+counted-other page frame holds ordered some =
+    let found = other-entry page frame holds.entries ordered some in
+    (found.0, found.1, found.3, (btree_map_get_iff nat_cmp_total exact_unsigned holds ordered found.0 found.1).1 found.2, found.4)
 
 -- an item other than the default stands in the list
 pub past-none : (xs : List ℕ) (i : ℕ) → 0 < get_or xs i 0 → i < length xs

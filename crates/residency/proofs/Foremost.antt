@@ -1,17 +1,29 @@
--- The leaves in order: the first that may be evicted is the victim.
-use Rattle.std.proofs.Common.{◌≡◌, ℕ, ◌<◌, ◌≤◌, ◌==◌, List, [], ◌∷◌, Bool, true, false, cond, ◌&&◌, ◌⊎◌, inl, inr, ⊎_elim, Option, Some, None, find, length, nat_cmp, refl, sym, ap, ◌∙◌, arith}
-use Rattle.std.specs.BTreeMap.{is_at}
-use Rattle.std.specs.BTreeSet.{BTreeSet}
+-- The places in order: the first of a page that may be evicted is the victim's.
+use Rattle.std.proofs.Common.{◌≡◌, ℕ, ◌<◌, ◌≤◌, ◌==◌, List, [], ◌∷◌, Bool, true, false, cond, ◌&&◌, ◌⊎◌, inl, inr, ⊎_elim, Option, Some, None, find, get_or, length, nat_cmp, ◌^◌, refl, sym, ap, ◌∙◌, arith}
+use Rattle.std.specs.BTreeMap.{get, is_at}
+use Rattle.std.specs.BTreeSet.{keys_between}
+use Rattle.std.specs.Option.{IfSome, IsSome}
+use Rattle.std.specs.declared.ops.Bound.TheVariants.{Included, Unbounded}
 use Rattle.std.specs.List.{list_any, AllByRecursion}
 use Rattle.std.specs.List.Sorted.{IsStrictlySortedBy}
 use Rattle.std.specs.declared.cmp.Ordering.TheVariants.{Less}
 use Rattle.std.specs.declared.cmp.Reverse.{Reverse}
 use Rattle.std.proofs.lemmas.Bool.Decides.{nat_tests}
 use Rattle.residency.specs.declared.layouts.Layout.{Layout}
-use Rattle.residency.specs.Leaf.{rank, rank_cmp, fits, is_leaf, IsListed}
-use Rattle.residency.specs.State.{State}
-use Rattle.residency.specs.Victim.{named_of, is_evictable, victim_for, IsStaler}
-use Rattle.residency.proofs.Leafing.{below-pages, rank-same, compared-less, compared-equal, then-less, leaf-whole}
+use Rattle.residency.specs.Agreement.{Agrees}
+use Rattle.residency.specs.declared.leaves.Leaves.{Leaves}
+use Rattle.residency.specs.declared.standings.Standing.{Standing}
+use Rattle.residency.specs.Frame.{Frame}
+use Rattle.residency.specs.Holding.{covers}
+use Rattle.residency.specs.Leaf.{rank, rank_cmp, fits, is_leaf}
+use Rattle.residency.specs.Parking.{Ranks}
+use Rattle.residency.specs.Shown.{shown}
+use Rattle.residency.specs.State.{State, is_resident}
+use Rattle.residency.specs.Victim.{named_of, is_evictable, is_pinned, victim_for, IsStaler}
+use Rattle.residency.proofs.Leafing.{below-pages, stands-from, start_at, rank-same, compared-less, compared-equal, then-less, leaf-whole}
+use Rattle.residency.proofs.Flags.{place-within}
+use Rattle.residency.proofs.Held.{pinned-covered}
+use Rattle.residency.proofs.Parked.{never-both, not-so}
 use Rattle.residency.proofs.Soundness.{loose}
 use Rattle.residency.proofs.Stalest.{IsVictim-from_some, HasNoVictim-from_none}
 use Rattle.residency.proofs.Tests.{and-both, same-eqb, or-cases, find-passes}
@@ -99,13 +111,17 @@ page_of : Option Rank → Option ℕ
 page_of None = None
 page_of (Some place) = Some place.1.0
 
--- the first of the leaves that fits is of the victim
-pub victim-found : (layout : Layout) (s : State) (page : ℕ) (order : BTreeSet Rank) (place : Rank) → length s.resident ≡ layout.pages → IsStrictlySortedBy rank_cmp order.keys → IsListed layout s order → find (fits layout s page) order.keys ≡ Some place → Some place.1.0 ≡ victim_for layout s page
-victim-found layout s page order place len sorted listed found = of_victim (victim_for layout s page) refl
+-- each page that may be evicted for this one stands among the places, as it was last named
+abbrev pub HasEvictable : Layout → State → ℕ → List Rank → Type 0
+HasEvictable layout s page places = (q : ℕ) → is_evictable layout s page q ≡ true → has (rank (named_of s q) q) places ≡ true
+
+-- the first of the places that fits is of the victim
+pub victim-found : (layout : Layout) (s : State) (page : ℕ) (places : List Rank) (place : Rank) → length s.resident ≡ layout.pages → IsStrictlySortedBy rank_cmp places → HasEvictable layout s page places → find (fits layout s page) places ≡ Some place → Some place.1.0 ≡ victim_for layout s page
+victim-found layout s page places place len sorted listed found = of_victim (victim_for layout s page) refl
   where
     told : (named_of s place.1.0 ≡ place.0) × (is_evictable layout s page place.1.0 ≡ true)
     told =
-        let parts = and-both (named_of s place.1.0 == place.0) (is_evictable layout s page place.1.0) (find-passes (fits layout s page) order.keys place found) in
+        let parts = and-both (named_of s place.1.0 == place.0) (is_evictable layout s page place.1.0) (find-passes (fits layout s page) places place found) in
         (same-eqb (named_of s place.1.0) place.0 parts.0, parts.1)
 
     below : place.1.0 < layout.pages
@@ -119,19 +135,32 @@ victim-found layout s page order place len sorted listed found = of_victim (vict
     of_victim None is = absurd (HasNoVictim-from_none layout s page is place.1.0 below told.1)
     of_victim (Some w) is =
         let victim = IsVictim-from_some layout s page w is in
-        let first = find-first (fits layout s page) order.keys place (rank (named_of s w) w) (fits-exact layout s page) sorted found (listed w (evictable-leaf layout s page w victim.evictable)) (fits-own layout s page w victim.evictable) in
+        let first = find-first (fits layout s page) places place (rank (named_of s w) w) (fits-exact layout s page) sorted found (listed w victim.evictable) (fits-own layout s page w victim.evictable) in
         let same = same-first s place.1.0 w (staler w first) (victim.first place.1.0 below told.1) in
         ap Some same ∙ sym is
 
 -- where none of them fits there is no victim
-pub victim-none : (layout : Layout) (s : State) (page : ℕ) (order : BTreeSet Rank) → IsListed layout s order → find (fits layout s page) order.keys ≡ None → None ≡ victim_for layout s page
-victim-none layout s page order listed none = of_victim (victim_for layout s page) refl
+pub victim-none : (layout : Layout) (s : State) (page : ℕ) (places : List Rank) → HasEvictable layout s page places → find (fits layout s page) places ≡ None → None ≡ victim_for layout s page
+victim-none layout s page places listed none = of_victim (victim_for layout s page) refl
   where
     of_victim : (o : Option ℕ) → victim_for layout s page ≡ o → None ≡ victim_for layout s page
     of_victim None is = sym is
     of_victim (Some w) is =
         let victim = IsVictim-from_some layout s page w is in
-        absurd (find-nothing (fits layout s page) order.keys (rank (named_of s w) w) (fits-exact layout s page) none (listed w (evictable-leaf layout s page w victim.evictable)) (fits-own layout s page w victim.evictable))
+        absurd (find-nothing (fits layout s page) places (rank (named_of s w) w) (fits-exact layout s page) none (listed w victim.evictable) (fits-own layout s page w victim.evictable))
+
+-- such pages stand in order, past what the greatest moment covers
+pub HasEvictable-from : (entries : ℕ) (layout : Layout) (frames : List Frame) (x : Standing) (leaves : Leaves) (page start : ℕ) (moment : Option ℕ) → Agrees entries frames x → Ranks layout frames x leaves → IfSome moment (λ m. IsSome (get nat_cmp x.frames.moments m)) → ((count : ℕ) → covers moment count ≡ false → start ≤ count) → HasEvictable layout (shown x frames) page (keys_between rank_cmp (Included (start_at start)) Unbounded leaves.order)
+HasEvictable-from entries layout frames x leaves page start moment agrees ranked live after = λ q evictable.
+    let s = shown x frames in
+    let free = loose layout s page q evictable in
+    let uncovered = not-so (covers moment (get_or x.since.items q 0)) (λ covered. never-both (is_pinned s q) (pinned moment q live covered free.resident) free.unpinned) in
+    let small : q < 2 ^ 32 = omega (arith, place-within (λ (b : Bool). b) x.places.resident.items q false refl free.resident, agrees.counted.few_pages) in
+    stands-from leaves.order start (named_of s q) q small (omega (arith, after (get_or x.since.items q 0) uncovered, ranked.places.came q)) (ranked.places.listed q (evictable-leaf layout s page q evictable) free.unpinned)
+  where
+    pinned : (o : Option ℕ) (q : ℕ) → IfSome o (λ m. IsSome (get nat_cmp x.frames.moments m)) → covers o (get_or x.since.items q 0) ≡ true → is_resident (shown x frames) q ≡ true → is_pinned (shown x frames) q ≡ true
+    pinned None q some covered resident = cc
+    pinned (Some m) q some covered resident = let le : get_or x.since.items q 0 ≤ m = grind (arith, nat_tests) in pinned-covered entries frames x q m agrees some resident le
 
 -- one place fewer that doesn't fit
 pub find-later : (test : Rank → Bool) (left rest all : List Rank) (place : Rank) → left ≡ place ∷ rest → test place ≡ false → find test left ≡ find test all → find test rest ≡ find test all

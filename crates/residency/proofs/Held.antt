@@ -25,7 +25,7 @@ none-passes : (resident : List Bool) (since : List ℕ) (test : Frame → Bool) 
 none-passes resident since test None h = refl
 none-passes resident since test (Some f) h = absurd h
 
-at-hold : (entries : ℕ) (frames : List Frame) (x : Standing) (n : ℕ) (o : Option Hold) → Agrees entries frames x → get nat_cmp x.frames.holds n ≡ o → AreHold x.places.resident.items x.since.items (frame_at n frames) o
+pub at-hold : (entries : ℕ) (frames : List Frame) (x : Standing) (n : ℕ) (o : Option Hold) → Agrees entries frames x → get nat_cmp x.frames.holds n ≡ o → AreHold x.places.resident.items x.since.items (frame_at n frames) o
 at-hold entries frames x n o agrees at = rw at at (agrees.hold n)
 
 -- ---- one frame
@@ -59,7 +59,7 @@ live-found entries frames x n agrees =
 -- ---- some frame
 
 -- what is held is of a frame
-of-frame : (resident : List Bool) (since : List ℕ) (o : Option Frame) (hold : Hold) → AreHold resident since o (Some hold) → (f : Frame) × (o ≡ Some f) × IsHold resident since f hold
+pub of-frame : (resident : List Bool) (since : List ℕ) (o : Option Frame) (hold : Hold) → AreHold resident since o (Some hold) → (f : Frame) × (o ≡ Some f) × IsHold resident since f hold
 of-frame resident since None hold h = absurd h
 of-frame resident since (Some f) hold h = (f, refl, h)
 
@@ -73,7 +73,11 @@ pub pinned-named : (entries : ℕ) (frames : List Frame) (x : Standing) (n page 
 pinned-named entries frames x n page hold agrees at named =
     pinned-held entries frames x n page hold agrees at (or-left (set.contains nat_cmp hold.pages page) _ named)
 
-of-moment : (o : Option Hold) (m : ℕ) → moment_in o ≡ Some m → (hold : Hold) × (o ≡ Some hold) × (hold.moment ≡ Some m)
+pub of-live : (o : Option Hold) → is_some o ≡ true → (hold : Hold) × (o ≡ Some hold)
+of-live None live = cc
+of-live (Some hold) live = (hold, refl)
+
+pub of-moment : (o : Option Hold) (m : ℕ) → moment_in o ≡ Some m → (hold : Hold) × (o ≡ Some hold) × (hold.moment ≡ Some m)
 of-moment None m h = cc
 of-moment (Some hold) m h = (hold, refl, h)
 

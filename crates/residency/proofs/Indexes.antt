@@ -1,11 +1,12 @@
 -- The indexes of what frames hold, after one of the frames changed, began or ended.
 use Rattle.std.proofs.Common.{◌≡◌, ◌⊎◌, inl, inr, ⊎_elim, ℕ, ◌+◌, ◌<◌, ◌==◌, true, false, cond, List, nat_eq, nat_cmp, Option, Some, None, length, slice_index_or, refl, sym, ap, ◌∙◌, arith}
 use Rattle.std.specs.BTreeMap.{BTreeMap, get, is_at, IsOrdered, WritesThrough, insert_entry}
+use Rattle.std.specs.BTreeSet.{BTreeSet, contains}
 use Rattle.std.specs.Map.{remove_entry}
 use Rattle.std.specs.Option.{IsSome}
 use Rattle.residency.specs.declared.frames.Frames.{Frames}
 use Rattle.residency.specs.declared.frames.Hold.{Hold}
-use Rattle.residency.specs.Holding.{IsIndexed, named_by, moment_in, moment_of, listed, unlisted}
+use Rattle.residency.specs.Holding.{IsIndexed, named_by, named_count, one, moment_in, moment_of, listed, unlisted}
 use Rattle.residency.proofs.Counts.{has, is_at-eqb, named_count-written, named_count-inserted, named_count-removed}
 use Rattle.std.proofs.lemmas.Bool.Decides.{Decides-eqb}
 use Rattle.residency.proofs.Tests.{same-eqb}
@@ -67,11 +68,11 @@ put-cases old new frame f w at =
       | false ↦ λ apart k. inr (λ same. let yes : (frame == f) ≡ true = (Decides-eqb frame f).1 same in let no : (frame == f) ≡ false = sym (is_at-eqb frame f) ∙ apart in cc, ap moment_in k)
     ] refl at
 
--- a frame was put in the place of its number, and its moment listed in place of its old one
-pub IsIndexed-put : (old new : Frames) (counts : List ℕ) (frame : ℕ) (w : Hold) (between : ℕ → Option ℕ) → IsIndexed old → IsOrdered nat_cmp new.holds → ((f : ℕ) → get nat_cmp new.holds f ≡ cond (is_at (nat_cmp frame) f) (Some w) (get nat_cmp old.holds f)) → new.holds.entries ≡ insert_entry nat_cmp old.holds.entries frame w →
-    ((m : ℕ) → w.moment ≡ Some m → get nat_cmp old.moments m ≡ None) → ((m : ℕ) → between m ≡ listed (get nat_cmp old.moments) w.moment frame m) → ((m : ℕ) → get nat_cmp new.moments m ≡ unlisted between (moment_of old.holds frame) m) → new.counts.items ≡ counts → length counts ≡ length old.counts.items →
-    ((page : ℕ) → page < length counts → slice_index_or counts page 0 + named_by page (get nat_cmp old.holds frame) ≡ slice_index_or old.counts.items page 0 + has page w) → IsIndexed new
-IsIndexed-put old new counts frame w between indexed ordered at inserted fresh listing unlisting items len raised = record {
+-- a frame holds this now, and its moment is listed in place of its old one
+IsIndexed-relisted : (old new : Frames) (frame : ℕ) (w : Hold) (between : ℕ → Option ℕ) → IsIndexed old → IsOrdered nat_cmp new.holds → ((f : ℕ) → get nat_cmp new.holds f ≡ cond (is_at (nat_cmp frame) f) (Some w) (get nat_cmp old.holds f)) →
+    ((m : ℕ) → w.moment ≡ Some m → get nat_cmp old.moments m ≡ None) → ((m : ℕ) → between m ≡ listed (get nat_cmp old.moments) w.moment frame m) → ((m : ℕ) → get nat_cmp new.moments m ≡ unlisted between (moment_of old.holds frame) m) →
+    ((page : ℕ) → page < length new.counts.items → slice_index_or new.counts.items page 0 ≡ named_count page new.holds) → IsIndexed new
+IsIndexed-relisted old new frame w between indexed ordered at fresh listing unlisting counted = record {
   ordered = ordered;
   listed = λ f m h. ⊎_elim
       (λ (same, is). ⊎_elim
@@ -96,11 +97,30 @@ IsIndexed-put old new counts frame w between indexed ordered at inserted fresh l
       ⊎_elim (λ (same, now). absurd (stays (rw same was))) (λ (apart, now). now ∙ was) (put-cases old.holds new.holds frame f (Some w) (at f)))
       (listed-cases (get nat_cmp old.moments) w.moment frame m))
       (unlisted-cases between (moment_of old.holds frame) m);
-  counted = λ page below.
-      let here : page < length counts = rw items at below in
-      let was = indexed.counted page (omega (arith, len, here)) in
-      rw items (omega (arith, raised page here, was, named_count-inserted page frame old.holds new.holds w indexed.ordered inserted));
+  counted = counted;
 }
+
+-- a frame was put in the place of its number, and its moment listed in place of its old one
+pub IsIndexed-put : (old new : Frames) (counts : List ℕ) (frame : ℕ) (w : Hold) (between : ℕ → Option ℕ) → IsIndexed old → IsOrdered nat_cmp new.holds → ((f : ℕ) → get nat_cmp new.holds f ≡ cond (is_at (nat_cmp frame) f) (Some w) (get nat_cmp old.holds f)) → new.holds.entries ≡ insert_entry nat_cmp old.holds.entries frame w →
+    ((m : ℕ) → w.moment ≡ Some m → get nat_cmp old.moments m ≡ None) → ((m : ℕ) → between m ≡ listed (get nat_cmp old.moments) w.moment frame m) → ((m : ℕ) → get nat_cmp new.moments m ≡ unlisted between (moment_of old.holds frame) m) → new.counts.items ≡ counts → length counts ≡ length old.counts.items →
+    ((page : ℕ) → page < length counts → slice_index_or counts page 0 + named_by page (get nat_cmp old.holds frame) ≡ slice_index_or old.counts.items page 0 + has page w) → IsIndexed new
+IsIndexed-put old new counts frame w between indexed ordered at inserted fresh listing unlisting items len raised =
+    IsIndexed-relisted old new frame w between indexed ordered at fresh listing unlisting
+    (λ page below.
+    let here : page < length counts = rw items at below in
+    let was = indexed.counted page (omega (arith, len, here)) in
+    rw items (omega (arith, raised page here, was, named_count-inserted page frame old.holds new.holds w indexed.ordered inserted)))
+
+-- a live frame got another moment, and pins by name what it did
+pub IsIndexed-again : (old new : Frames) (frame : ℕ) (v w : Hold) (between : ℕ → Option ℕ) → IsIndexed old → get nat_cmp old.holds frame ≡ Some v → WritesThrough nat_cmp (nat_cmp frame) old.holds w new.holds → w.pages ≡ v.pages → ((m : ℕ) → w.moment ≡ Some m → get nat_cmp old.moments m ≡ None) →
+    ((m : ℕ) → between m ≡ listed (get nat_cmp old.moments) w.moment frame m) → ((m : ℕ) → get nat_cmp new.moments m ≡ unlisted between v.moment m) → new.counts ≡ old.counts → IsIndexed new
+IsIndexed-again old new frame v w between indexed at written same fresh listing unlisting counts =
+    let updates = written.3 (is-some (get nat_cmp old.holds frame) v at) in
+    IsIndexed-relisted old new frame w between indexed written.4 updates.0 fresh listing (λ m. unlisting m ∙ ap (λ (hold : Option Hold). unlisted between (moment_in hold) m) (sym at))
+    (λ page below.
+    let was = indexed.counted page (rw counts at below) in
+    let both : has page w ≡ has page v = ap (λ (pages : BTreeSet ℕ). one (contains nat_cmp pages page)) same in
+    rw counts (omega (arith, was, both, named_count-written page frame old.holds new.holds v w at written.0)))
 
 -- a frame ended, and its moment is listed no more
 pub IsIndexed-removed : (old new : Frames) (counts : List ℕ) (frame : ℕ) → IsIndexed old → IsOrdered nat_cmp new.holds → ((f : ℕ) → get nat_cmp new.holds f ≡ cond (is_at (nat_cmp frame) f) None (get nat_cmp old.holds f)) → new.holds.entries ≡ remove_entry (is_at (nat_cmp frame)) old.holds.entries →

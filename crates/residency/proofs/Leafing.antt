@@ -1,40 +1,37 @@
--- The leaves in the order in which they may come to be evicted, and which pages become leaves.
-use Rattle.std.proofs.Common.{◌≡◌, ◌≢◌, ℕ, ◌+◌, ◌<◌, ◌≤◌, nat_lt, nat_eq, ◌==◌, List, [], ◌∷◌, Bool, true, false, not, cond, ◌&&◌, ◌⊎◌, inl, inr, ⊎_elim, Option, Some, None, get_or, set, nat_le, get_or-set_same, get_or-set_other, length, length-set, take, nat_cmp, refl, sym, ◌∙◌, arith}
+-- The order of places, and which pages are leaves.
+use Rattle.std.proofs.Common.{◌≡◌, ◌≢◌, ℕ, ◌+◌, ◌-◌, ◌^◌, ◌<◌, ◌≤◌, nat_lt, nat_eq, ◌==◌, List, [], ◌∷◌, Bool, true, false, not, ◌&&◌, ◌⊎◌, inl, inr, ⊎_elim, Option, get_or, set, length, length-set, take, nat_cmp, refl, sym, ap, ◌∙◌, arith}
 use Rattle.std.specs.BTreeMap.{is_at}
-use Rattle.std.specs.BTreeSet.{BTreeSet}
+use Rattle.std.specs.BTreeMap.Range.{range_contains}
+use Rattle.std.specs.BTreeSet.{BTreeSet, keys_between}
+use Rattle.std.specs.declared.ops.Bound.TheVariants.{Included, Unbounded}
+use Rattle.std.proofs.lemmas.Map.Views.{any-filter_same}
 use Rattle.std.specs.List.{list_any, list_all}
-use Rattle.std.specs.Ordering.{ordering_then, is_eq}
+use Rattle.std.specs.Ordering.{ordering_then, is_eq, is_le}
 use Rattle.std.specs.Result.{OnOk}
 use Rattle.std.proofs.Common.{Result, Ok, Err}
 use Rattle.std.specs.declared.cmp.Ordering.{Ordering}
 use Rattle.std.specs.declared.cmp.Ordering.TheVariants.{Less, Equal, Greater}
 use Rattle.std.specs.declared.cmp.Reverse.{Reverse}
 use Rattle.std.proofs.lemmas.Bool.{cases_lt}
-use Rattle.std.proofs.lemmas.List.{length-replicate}
-use Rattle.std.proofs.lemmas.List.FromFn.{length-map-range_with_len}
 use Rattle.std.proofs.lemmas.List.Folds.{list_any_more}
-use Rattle.std.proofs.lemmas.Bool.Decides.{nat_tests, Decides-ltb}
-use Rattle.residency.specs.declared.entries.Entry.{Entry}
-use Rattle.residency.specs.declared.entries.Spoilt.{Spoilt}
+use Rattle.std.proofs.lemmas.Bool.Decides.{nat_tests, Decides-eqb, Decides-ltb}
 use Rattle.residency.specs.declared.entries.What.{What}
 use Rattle.residency.specs.declared.entries.What.TheVariants.{Pin, Settle, Ask, Narrow, Unpin, Take, Install, Fail, Spoil, Starve, Full, Stop}
 use Rattle.residency.specs.declared.layouts.Layout.{Layout}
-use Rattle.residency.specs.declared.leaves.Leaves.{Leaves}
-use Rattle.residency.specs.Layout.{InBounds, page_numbers, uppers_of, is_upper}
-use Rattle.residency.specs.Leaf.{rank, rank_cmp, ranks, IsWider, is_leaf, IsListed, CountsLowers, Ranks}
-use Rattle.residency.specs.Rules.{allows, loads, rose, last_after, is_wrong}
-use Rattle.residency.specs.Sound.{IsSound}
-use Rattle.residency.specs.State.{State, after, changed, is_resident, is_held, name_at, opening}
-use Rattle.residency.specs.Victim.{named_of, is_stood_on}
-use Rattle.residency.proofs.Agreed.{other-page, name_at-len}
-use Rattle.residency.proofs.Allowed.{installed-below}
+use Rattle.residency.specs.Layout.{page_numbers, uppers_of, is_upper}
+use Rattle.residency.specs.Leaf.{rank, rank_cmp, ranks, is_leaf}
+use Rattle.residency.specs.State.{State, changed, is_resident, is_held, name_at}
+use Rattle.residency.specs.Victim.{is_stood_on}
+use Rattle.residency.proofs.Agreed.{name_at-len}
 use Rattle.residency.proofs.Choices.{IsTaken}
 use Rattle.residency.proofs.Flags.{get_or-set_cases, place-within}
-use Rattle.residency.proofs.Followed.{Begins-taken, Begins-evicted, Begins-ended, held-installed}
-use Rattle.residency.proofs.Soundness.{resident-root, IsSound-after}
 use Rattle.residency.proofs.Tests.{and-both, not-false, same-eqb, or-cases, or-left, or-right, any-weaker}
 
 -- ---- the order
+
+pub both-true : (a b : Bool) → a ≡ true → b ≡ true → (a && b) ≡ true
+both-true true b h k = k
+both-true false b h k = cc
 
 at-least : (a b : ℕ) → a ≤ b → b ≤ a → a ≡ b
 at-least a b h k = omega (arith, h, k)
@@ -86,26 +83,73 @@ rank-same x y h =
     let parts = then-equal (nat_cmp x.0 y.0) (nat_cmp y.1.0 x.1.0) h in
     (compared-equal x.0 y.0 parts.0, sym (compared-equal y.1.0 x.1.0 parts.1))
 
--- what a page that was put in leaves
-pub inserted : (b before after : Bool) → after ≡ cond b true before → before ≡ true → after ≡ true
-inserted true before after is was = is
-inserted false before after is was = is ∙ was
+same-tests : (a b : Bool) → (a ≡ true → b ≡ true) → (b ≡ true → a ≡ true) → a ≡ b
+same-tests true true h k = refl
+same-tests true false h k = sym (h refl)
+same-tests false true h k = k refl
+same-tests false false h k = refl
 
-pub inserted-own : (b before after : Bool) → after ≡ cond b true before → b ≡ true → after ≡ true
-inserted-own true before after is own = is
-inserted-own false before after is own = cc
+-- a query finds a place where both numbers are the same
+pub rank-test : (n p m q : ℕ) → is_at (rank_cmp (rank n p)) (rank m q) ≡ ((n == m) && (p == q))
+rank-test n p m q =
+    same-tests _ _
+    (λ h. let same = rank-same (rank n p) (rank m q) h in let a : (n == m) ≡ true = (Decides-eqb n m).1 same.0 in let b : (p == q) ≡ true = (Decides-eqb p q).1 same.1 in rw (a, b) refl)
+    (λ h. let parts = and-both (n == m) (p == q) h in let a = same-eqb n m parts.0 in let b = same-eqb p q parts.1 in rw (a, b) (rank-itself (rank m q)))
 
--- ---- the pages that become leaves by an entry
+-- whether a place of the list is the page's at this count
+abbrev pub stands_in : List (ℕ × Reverse ℕ) → ℕ → ℕ → Bool
+stands_in places count page = list_any (is_at (rank_cmp (rank count page))) places
 
-abbrev Order : Type 0
-Order = BTreeSet (ℕ × Reverse ℕ)
+pub stands-first : (places rest : List (ℕ × Reverse ℕ)) (place : ℕ × Reverse ℕ) → places ≡ place ∷ rest → stands_in places place.0 place.1.0 ≡ true
+stands-first places rest place is =
+    ap (λ all. stands_in all place.0 place.1.0) is ∙ or-left (is_at (rank_cmp place) place) (list_any (is_at (rank_cmp place)) rest) (rank-itself place)
+
+pub stands-later : (places rest : List (ℕ × Reverse ℕ)) (place : ℕ × Reverse ℕ) (count page : ℕ) → places ≡ place ∷ rest → stands_in rest count page ≡ true → stands_in places count page ≡ true
+stands-later places rest place count page is h =
+    ap (λ all. stands_in all count page) is ∙ or-right (is_at (rank_cmp (rank count page)) place) (stands_in rest count page) h
+
+-- it is the first, or one of the rest
+pub stands-cases : (places rest : List (ℕ × Reverse ℕ)) (place : ℕ × Reverse ℕ) (count page : ℕ) → places ≡ place ∷ rest → stands_in places count page ≡ true → ((count ≡ place.0) × (page ≡ place.1.0)) ⊎ (stands_in rest count page ≡ true)
+stands-cases places rest place count page is h =
+    ⊎_elim (λ here. inl (rank-same (rank count page) place here)) (λ later. inr later) (or-cases (is_at (rank_cmp (rank count page)) place) (stands_in rest count page) (sym (ap (λ all. stands_in all count page) is) ∙ h))
+
+pub stands-none : (places : List (ℕ × Reverse ℕ)) (count page : ℕ) → places ≡ [] → stands_in places count page ≡ true → ⊥
+stands-none places count page is h = let no : stands_in places count page ≡ false = ap (λ all. stands_in all count page) is in cc
+
+-- the first place of those from this count on
+abbrev pub start_at : ℕ → ℕ × Reverse ℕ
+start_at count = rank count (2 ^ 32 - 1)
+
+not-past : (a b : ℕ) → a ≤ b → is_le (nat_cmp a b) ≡ true
+not-past a b le =
+    elim (a == b) as (λ t. (a == b) ≡ t → is_le (nat_cmp a b) ≡ true) [
+      | true ↦ λ e. let same = same-eqb a b e in rw (same, compared-itself b) refl
+      | false ↦ λ e. let less : nat_lt a b ≡ true = grind (arith, nat_tests, le) in rw less refl
+    ] refl
+
+then-not-past : (a b : Ordering) → (is_le a ≡ true) → (a ≡ Equal → is_le b ≡ true) → is_le (ordering_then a b) ≡ true
+then-not-past Less b h k = refl
+then-not-past Equal b h k = k refl
+then-not-past Greater b h k = h
+
+inside-range : (start count page : ℕ) → page < 2 ^ 32 → start ≤ count → is_le (rank_cmp (start_at start) (rank count page)) ≡ true
+inside-range start count page small le =
+    then-not-past (nat_cmp start count) (nat_cmp page (2 ^ 32 - 1)) (not-past start count le) (λ same. not-past page (2 ^ 32 - 1) (omega (arith, small)))
+
+-- the places from a count on are those of no smaller count
+pub stands-from : (places : BTreeSet (ℕ × Reverse ℕ)) (start count page : ℕ) → page < 2 ^ 32 → start ≤ count → ranks places count page ≡ true → stands_in (keys_between rank_cmp (Included (start_at start)) Unbounded places) count page ≡ true
+stands-from places start count page small le has =
+    any-filter_same (is_at (rank_cmp (rank count page))) (range_contains rank_cmp (Included (start_at start)) Unbounded) true
+    (λ place here. let same = rank-same (rank count page) place here in both-true (is_le (rank_cmp (start_at start) place)) true (let P : ℕ → ℕ → Type 0 = λ n p. is_le (rank_cmp (start_at start) (rank n p)) ≡ true in rw (← same.0, ← same.1) (inside-range start count page small le)) refl) places.keys ∙ has
+
+-- ---- leaves
 
 pub record IsLeaf (layout : Layout) (s : State) (page : ℕ) : Type 0 where
   pub resident : is_resident s page ≡ true
   pub inner : nat_lt page layout.roots ≡ false
   pub bare : is_stood_on layout s page ≡ false
 
-leaf-parts : (layout : Layout) (s : State) (page : ℕ) → is_leaf layout s page ≡ true → IsLeaf layout s page
+pub leaf-parts : (layout : Layout) (s : State) (page : ℕ) → is_leaf layout s page ≡ true → IsLeaf layout s page
 leaf-parts layout s page h =
     let root = nat_lt page layout.roots in
     let stood = is_stood_on layout s page in
@@ -116,12 +160,8 @@ leaf-parts layout s page h =
 pub leaf-whole : (layout : Layout) (s : State) (page : ℕ) → IsLeaf layout s page → is_leaf layout s page ≡ true
 leaf-whole layout s page leaf = rw (leaf.resident, leaf.inner, leaf.bare) refl
 
-both-true : (a b : Bool) → a ≡ true → b ≡ true → (a && b) ≡ true
-both-true true b h k = k
-both-true false b h k = cc
-
 -- a page that is not stood on was not before, where what stood on it is held still
-bare-before : (layout : Layout) (s s' : State) (p : ℕ) → ((q : ℕ) → is_held s q ≡ true → is_upper layout p q ≡ true → is_held s' q ≡ true) → is_stood_on layout s' p ≡ false → is_stood_on layout s p ≡ false
+pub bare-before : (layout : Layout) (s s' : State) (p : ℕ) → ((q : ℕ) → is_held s q ≡ true → is_upper layout p q ≡ true → is_held s' q ≡ true) → is_stood_on layout s' p ≡ false → is_stood_on layout s p ≡ false
 bare-before layout s s' p stays bare =
     elim (is_stood_on layout s p) as (λ b. is_stood_on layout s p ≡ b → b ≡ false) [
       | true ↦ λ stood.
@@ -130,98 +170,22 @@ bare-before layout s s' p stays bare =
       | false ↦ λ none. refl
     ] refl
 
-name_at-cases : (k : ℕ) (named pages : List ℕ) (p : ℕ) → (get_or (name_at k pages named) p 0 ≡ get_or named p 0) ⊎ ((list_any (λ q. q == p) pages ≡ true) × (get_or (name_at k pages named) p 0 ≡ k))
+pub name_at-cases : (k : ℕ) (named pages : List ℕ) (p : ℕ) → (get_or (name_at k pages named) p 0 ≡ get_or named p 0) ⊎ ((list_any (nat_eq p) pages ≡ true) × (get_or (name_at k pages named) p 0 ≡ k))
 name_at-cases k named [] p = inl refl
 name_at-cases k named (q ∷ pages) p =
     ⊎_elim
-    (λ same. ⊎_elim (λ old. inl (same ∙ old)) (λ here. inr (or-left (q == p) (list_any (λ r. r == p) pages) (itself q p here.0), same ∙ here.1)) (get_or-set_cases named q p k 0))
-    (λ later. inr (or-right (q == p) (list_any (λ r. r == p) pages) later.0, later.1))
+    (λ same. ⊎_elim (λ old. inl (same ∙ old)) (λ here. inr (or-left (nat_eq p q) (list_any (nat_eq p) pages) (itself q p here.0), same ∙ here.1)) (get_or-set_cases named q p k 0))
+    (λ later. inr (or-right (nat_eq p q) (list_any (nat_eq p) pages) later.0, later.1))
     (name_at-cases k (set named q k) pages p)
   where
-    itself : (q p : ℕ) → p ≡ q → (q == p) ≡ true
+    itself : (q p : ℕ) → p ≡ q → nat_eq p q ≡ true
     itself q p same = grind (arith, nat_tests, same)
 
--- pages that were named stand where they are named now
-pub IsListed-named : (layout : Layout) (s : State) (by frame : ℕ) (pages : List ℕ) (old new : Order) → IsWider old new → ((p : ℕ) → list_any (λ q. q == p) pages ≡ true → ranks new (s.entries + 1) p ≡ true) → IsListed layout s old → IsListed layout (changed s by (Narrow frame pages)) new
-IsListed-named layout s by frame pages old new wider there listed = λ p leaf.
-    ⊎_elim
-    (λ same. let was : ranks new (get_or s.named p 0) p ≡ true = wider (get_or s.named p 0) p (listed p leaf) in rw same was)
-    (λ here. let now : ranks new (s.entries + 1) p ≡ true = there p here.0 in rw here.1 now)
-    (name_at-cases (s.entries + 1) s.named pages p)
-
-pub IsListed-installed : (layout : Layout) (s : State) (by page : ℕ) (digest : _) (old new : Order) → IsSound layout s → loads s by page ≡ true → length s.named ≡ layout.pages → IsWider old new → ranks new (s.entries + 1) page ≡ true → IsListed layout s old → IsListed layout (changed s by (Install page digest)) new
-IsListed-installed layout s by page digest old new sound loaded len wider there listed = λ p h.
-    let s' = changed s by (Install page digest) in
-    let leaf = leaf-parts layout s' p h in
-    elim (nat_eq page p) as (λ b. nat_eq page p ≡ b → ranks new (get_or (set s.named page (s.entries + 1)) p 0) p ≡ true) [
-      | true ↦ λ here.
-          let same : page ≡ p = same-eqb page p here in
-          let now : get_or (set s.named page (s.entries + 1)) page 0 ≡ s.entries + 1 = get_or-set_same s.named page (s.entries + 1) 0 (omega (arith, len, installed-below layout s by page sound loaded, sound.flag_a_page)) in
-          rw (← same) (rw now there)
-      | false ↦ λ no.
-          let apart = other-page page p no in
-          let resident : is_resident s p ≡ true = sym (get_or-set_other s.resident page p true false apart) ∙ leaf.resident in
-          let bare = bare-before layout s s' p (λ q held up. held-installed layout s by page digest sound loaded q ∙ held) leaf.bare in
-          let was = wider (get_or s.named p 0) p (listed p (leaf-whole layout s p (record { resident = resident; inner = leaf.inner; bare = bare }))) in
-          rw (get_or-set_other s.named page p (s.entries + 1) 0 apart) was
-    ] refl
-
 -- a page that is held is not the one that is taken
-not-taken : (layout : Layout) (s : State) (page : ℕ) (victim : Option ℕ) (q : ℕ) → IsTaken layout s page victim → is_held s q ≡ true → q ≢ page
+pub not-taken : (layout : Layout) (s : State) (page : ℕ) (victim : Option ℕ) (q : ℕ) → IsTaken layout s page victim → is_held s q ≡ true → q ≢ page
 not-taken layout s page victim q told held same =
     let no = not-false (is_held s page) (and-both (not (is_held s page)) (list_all (is_resident s) (uppers_of layout page)) told.takeable).0 in
     let yes : is_held s page ≡ true = rw same at held in cc
-
-pub IsListed-taken : (layout : Layout) (s : State) (by : ℕ) (frame : Option ℕ) (page : ℕ) (old new : Order) → IsSound layout s → IsTaken layout s page None → IsWider old new → IsListed layout s old → IsListed layout (changed s by (Take frame page None)) new
-IsListed-taken layout s by frame page old new sound told wider listed = λ p h.
-    let s' = changed s by (Take frame page None) in
-    let leaf = leaf-parts layout s' p h in
-    let begins = Begins-taken layout s by frame page None sound told in
-    let bare = bare-before layout s s' p (λ q held up. begins.others q (not-taken layout s page None q told held) ∙ held) leaf.bare in
-    wider (get_or s.named p 0) p (listed p (leaf-whole layout s p (record { resident = leaf.resident; inner = leaf.inner; bare = bare })))
-
-pub IsListed-evicted : (layout : Layout) (s : State) (by : ℕ) (frame : Option ℕ) (page v : ℕ) (old new : Order) → IsSound layout s → IsTaken layout s page (Some v) → IsWider old new → ((u : ℕ) → is_upper layout u v ≡ true → ranks new (get_or s.named u 0) u ≡ true) → IsListed layout s old → IsListed layout (changed s by (Take frame page (Some v))) new
-IsListed-evicted layout s by frame page v old new sound told wider there listed = λ p h.
-    let s' = changed s by (Take frame page (Some v)) in
-    let leaf = leaf-parts layout s' p h in
-    let begins = Begins-taken layout s by frame page (Some v) sound told in
-    let ends = Begins-evicted layout s by frame page v sound told in
-    let resident : is_resident s p ≡ true = ⊎_elim (λ same. sym same ∙ leaf.resident) (λ gone. let no = gone.1 in let yes = leaf.resident in cc) (get_or-set_cases s.resident v p false false) in
-    elim (is_upper layout p v) as (λ b. is_upper layout p v ≡ b → ranks new (get_or s.named p 0) p ≡ true) [
-      | true ↦ λ up. there p up
-      | false ↦ λ no.
-          let bare = bare-before layout s s' p (λ q held up. sym (ends.others q (λ same. let yes : is_upper layout p v ≡ true = rw same at up in cc)) ∙ (begins.others q (not-taken layout s page (Some v) q told held) ∙ held)) leaf.bare in
-          wider (get_or s.named p 0) p (listed p (leaf-whole layout s p (record { resident = resident; inner = leaf.inner; bare = bare })))
-    ] refl
-
-pub IsListed-ended : (layout : Layout) (s : State) (by page : ℕ) (old new : Order) → IsSound layout s → loads s by page ≡ true → IsWider old new → ((u : ℕ) → is_upper layout u page ≡ true → ranks new (get_or s.named u 0) u ≡ true) → IsListed layout s old → IsListed layout (changed s by (Starve page)) new
-IsListed-ended layout s by page old new sound loaded wider there listed = λ p h.
-    let s' = changed s by (Starve page) in
-    let leaf = leaf-parts layout s' p h in
-    let ends = Begins-ended layout s by page sound loaded in
-    elim (is_upper layout p page) as (λ b. is_upper layout p page ≡ b → ranks new (get_or s.named p 0) p ≡ true) [
-      | true ↦ λ up. there p up
-      | false ↦ λ no.
-          let bare = bare-before layout s s' p (λ q held up. sym (ends.others q (λ same. let yes : is_upper layout p page ≡ true = rw same at up in cc)) ∙ held) leaf.bare in
-          wider (get_or s.named p 0) p (listed p (leaf-whole layout s p (record { resident = leaf.resident; inner = leaf.inner; bare = bare })))
-    ] refl
-
-pub IsListed-unloaded : (layout : Layout) (s : State) (journal : List Entry) (by page : ℕ) (what : What) (old new : Order) → ((before : ℕ) × (after : ℕ) × (what ≡ Fail page before after)) ⊎ (((why : Spoilt) × (what ≡ Spoil page why)) ⊎ (what ≡ Starve page)) → IsSound layout s → allows layout s journal by what ≡ true → IsWider old new → ((u : ℕ) → is_upper layout u page ≡ true → ranks new (get_or s.named u 0) u ≡ true) → IsListed layout s old → IsListed layout (changed s by what) new
-IsListed-unloaded layout s journal by page what old new (inl (before, after, is)) sound h wider there listed =
-    let told : allows layout s journal by (Fail page before after) ≡ true = rw is at h in
-    rw is (IsListed-ended layout s by page old new sound (and-both (loads s by page) (rose before after && nat_le (last_after by journal) before) told).0 wider there listed)
-IsListed-unloaded layout s journal by page what old new (inr (inl (why, is))) sound h wider there listed =
-    let told : allows layout s journal by (Spoil page why) ≡ true = rw is at h in
-    rw is (IsListed-ended layout s by page old new sound (and-both (loads s by page) (is_wrong why) told).0 wider there listed)
-IsListed-unloaded layout s journal by page what old new (inr (inr is)) sound h wider there listed =
-    let told : allows layout s journal by (Starve page) ≡ true = rw is at h in
-    rw is (IsListed-ended layout s by page old new sound told wider there listed)
-
-pub IsListed-renamed : (layout : Layout) (s : State) (by : ℕ) (pages : List ℕ) (what : What) (old new : Order) → ((frame : ℕ) × (missing : List ℕ) × (what ≡ Settle frame pages missing)) ⊎ ((frame : ℕ) × (what ≡ Narrow frame pages)) → IsWider old new → ((p : ℕ) → list_any (λ q. q == p) pages ≡ true → ranks new (s.entries + 1) p ≡ true) → IsListed layout s old → IsListed layout (changed s by what) new
-IsListed-renamed layout s by pages what old new (inl (frame, missing, is)) wider there listed =
-    rw is (IsListed-named layout s by frame pages old new wider there listed)
-IsListed-renamed layout s by pages what old new (inr (frame, is)) wider there listed =
-    rw is (IsListed-named layout s by frame pages old new wider there listed)
 
 pub on_ok : {T E : Type 0} (r : Result T E) {P Q : Type 0} → (P → Q) → OnOk r P → OnOk r Q
 on_ok (Ok v) f h = f h
@@ -235,13 +199,6 @@ any-more page i pages below h =
 -- a resident page is one of the pages
 pub below-pages : (layout : Layout) (s : State) (p : ℕ) → length s.resident ≡ layout.pages → is_resident s p ≡ true → p < layout.pages
 below-pages layout s p len here = omega (arith, len, place-within (λ (b : Bool). b) s.resident p false refl here)
-
--- before any entry no page is a leaf but for root pages
-pub IsListed-opening : (layout : Layout) (order : Order) → IsListed layout (opening layout) order
-IsListed-opening layout order = λ p h.
-    let leaf = leaf-parts layout (opening layout) p h in
-    let root : nat_lt p layout.roots ≡ true = (Decides-ltb p layout.roots).1 (resident-root layout p leaf.resident) in
-    let no = leaf.inner in cc
 
 -- the lists by page keep their lengths
 pub named-len : (s : State) (by : ℕ) (what : What) → length (changed s by what).named ≡ length s.named
@@ -257,51 +214,3 @@ named-len s by (Spoil p why) = refl
 named-len s by (Starve p) = refl
 named-len s by (Full f) = refl
 named-len s by Stop = refl
-
-pub Ranks-opening : (layout : Layout) (leaves : Leaves) → CountsLowers layout (is_held (opening layout)) leaves.lowers.items → IsListed layout (opening layout) leaves.order → Ranks layout (opening layout) leaves
-Ranks-opening layout leaves lowers listed = record {
-  lowers = lowers;
-  listed = listed;
-  flag_a_page = length-map-range_with_len _ 0 layout.pages;
-  named_a_page = length-replicate layout.pages 0;
-}
-
--- more may stand among the leaves
-pub Ranks-wider : (layout : Layout) (s : State) (old new : Leaves) → new.lowers ≡ old.lowers → IsWider old.order new.order → Ranks layout s old → Ranks layout s new
-Ranks-wider layout s old new lowers wider ranked = record {
-  lowers = rw lowers ranked.lowers;
-  listed = λ p leaf. wider (get_or s.named p 0) p (ranked.listed p leaf);
-  flag_a_page = ranked.flag_a_page;
-  named_a_page = ranked.named_a_page;
-}
-
--- a place that isn't a leaf's, or isn't where it was last named, may go
-pub Ranks-removed : (layout : Layout) (s : State) (old new : Leaves) (named page : ℕ) → new.lowers ≡ old.lowers → ((n p : ℕ) → ranks new.order n p ≡ cond (is_at (rank_cmp (rank named page)) (rank n p)) false (ranks old.order n p)) → (named_of s page ≡ named → is_leaf layout s page ≡ true → ⊥) → Ranks layout s old → Ranks layout s new
-Ranks-removed layout s old new named page lowers removed idle ranked = record {
-  lowers = rw lowers ranked.lowers;
-  listed = λ p leaf. by_test p leaf (is_at (rank_cmp (rank named page)) (rank (named_of s p) p)) refl (removed (named_of s p) p);
-  flag_a_page = ranked.flag_a_page;
-  named_a_page = ranked.named_a_page;
-}
-  where
-    by_test : (p : ℕ) → is_leaf layout s p ≡ true → (b : Bool) → is_at (rank_cmp (rank named page)) (rank (named_of s p) p) ≡ b → ranks new.order (named_of s p) p ≡ cond b false (ranks old.order (named_of s p) p) → ranks new.order (named_of s p) p ≡ true
-    by_test p leaf true e is =
-        let same = rank-same (rank named page) (rank (named_of s p) p) e in
-        let here : page ≡ p = same.1 in
-        absurd (idle (rw here (sym same.0)) (rw here leaf))
-    by_test p leaf false e is = is ∙ ranked.listed p leaf
-
-pub idle-of : (layout : Layout) (s : State) (named page : ℕ) → ((named_of s page == named) && is_leaf layout s page) ≡ false → named_of s page ≡ named → is_leaf layout s page ≡ true → ⊥
-idle-of layout s named page other at leaf =
-    let yes : (named_of s page == named) ≡ true = grind (arith, nat_tests, at) in
-    let both = both-true (named_of s page == named) (is_leaf layout s page) yes leaf in
-    cc
-
--- what is kept of leaves after an entry
-pub Ranks-entered : (layout : Layout) (s : State) (journal : List Entry) (by : ℕ) (what : What) (leaves : Leaves) (order : Order) → InBounds layout → IsSound layout s → allows layout s journal by what ≡ true → CountsLowers layout (is_held (changed s by what)) leaves.lowers.items → leaves.order ≡ order → IsListed layout (changed s by what) order → length s.named ≡ layout.pages → Ranks layout (after s (record { by = by; what = what })) leaves
-Ranks-entered layout s journal by what leaves order bounds sound allowed lowers same listed len = record {
-  lowers = lowers;
-  listed = rw same listed;
-  flag_a_page = (IsSound-after layout s journal by what bounds sound allowed).flag_a_page;
-  named_a_page = named-len s by what ∙ len;
-}

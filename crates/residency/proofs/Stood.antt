@@ -114,7 +114,7 @@ count_on-most layout held p =
 uppers-past : (layout : Layout) (page : ℕ) → InBounds layout → layout.pages ≤ page → uppers_of layout page ≡ []
 uppers-past layout page bounds past = get_or_past layout.uppers page [] (omega (arith, past, bounds.list_a_page))
 
-began : (layout : Layout) (held held' : ℕ → Bool) (page p : ℕ) → InBounds layout → Begins layout held held' page → count_on layout held' p ≡ count_on layout held p + count_in p (uppers_of layout page)
+pub began : (layout : Layout) (held held' : ℕ → Bool) (page p : ℕ) → InBounds layout → Begins layout held held' page → count_on layout held' p ≡ count_on layout held p + count_in p (uppers_of layout page)
 began layout held held' page p bounds begins =
     ⊎_elim
     (λ below.

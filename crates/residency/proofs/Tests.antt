@@ -1,5 +1,5 @@
 -- Tests of several parts, and of the elements of a list.
-use Rattle.std.proofs.Common.{◌≡◌, ℕ, ◌==◌, List, [], ◌∷◌, Bool, true, false, not, cond, ◌&&◌, ◌||◌, ◌⊎◌, inl, inr, ⊎_elim, Some, find, filter, refl}
+use Rattle.std.proofs.Common.{◌≡◌, ℕ, ◌==◌, List, [], ◌∷◌, Bool, true, false, not, cond, ◌&&◌, ◌||◌, ◌⊎◌, inl, inr, ⊎_elim, Some, find, filter, refl, sym}
 use Rattle.std.specs.List.{list_any, list_all}
 use Rattle.std.proofs.lemmas.Bool.Decides.{Decides-eqb}
 
@@ -10,6 +10,10 @@ and-both false b h = cc
 pub not-false : (b : Bool) → not b ≡ true → b ≡ false
 not-false true h = cc
 not-false false h = refl
+
+pub not-true : (b : Bool) → not b ≡ false → b ≡ true
+not-true true h = refl
+not-true false h = cc
 
 pub or-cases : (a b : Bool) → (a || b) ≡ true → (a ≡ true) ⊎ (b ≡ true)
 or-cases true b h = inl refl
@@ -56,3 +60,10 @@ any-filter {X} test kept (x ∷ xs) h =
       | true ↦ λ k. ⊎_elim (λ here. or-left (test x) (list_any test xs) here) (λ later. or-right (test x) (list_any test xs) (any-filter test kept xs later)) (or-cases (test x) (list_any test (filter kept xs)) k)
       | false ↦ λ k. or-right (test x) (list_any test xs) (any-filter test kept xs k)
     ] h
+
+-- two answers that follow from each other are the same
+pub same-bools : (a b : Bool) → (a ≡ true → b ≡ true) → (b ≡ true → a ≡ true) → a ≡ b
+same-bools true true h k = refl
+same-bools true false h k = sym (h refl)
+same-bools false true h k = k refl
+same-bools false false h k = refl

@@ -7,6 +7,7 @@ use Rattle.residency.specs.declared.frames.Hold.{Hold}
 use Rattle.residency.specs.declared.standings.Standing.{Standing}
 use Rattle.residency.specs.Frame.{Frame}
 use Rattle.residency.specs.Holding.{IsIndexed, IsCounted, AreApart, AreHold, frame_at}
+use Rattle.residency.specs.Queue.{IsQueued, IsOwned}
 use Rattle.residency.specs.Shown.{shown}
 use Rattle.residency.specs.State.{State}
 
@@ -24,6 +25,9 @@ pub record Agrees (entries : ℕ) (frames : List Frame) (standing : Standing) : 
   pub earlier : (moment : ℕ) → IsSome (get nat_cmp standing.frames.moments moment) → moment < entries
   -- each page came by now
   pub came : (page : ℕ) → slice_index_or standing.since.items page 0 ≤ entries
+  -- what is wanted stands in the queue by its tickets, each want of a frame that is live or just ended
+  pub queued : IsQueued entries standing.wants
+  pub owned : IsOwned standing.frames.holds standing.wants
   -- the lists by page have an item for each page
   pub since_a_page : length standing.since.items ≡ length standing.places.resident.items
   pub count_a_page : length standing.frames.counts.items ≡ length standing.places.resident.items

@@ -7,9 +7,7 @@ use Rattle.std.specs.Ordering.{nat_cmp}
 use Rattle.residency.specs.declared.frames.Frames.{Frames}
 use Rattle.residency.specs.declared.frames.Hold.{Hold}
 use Rattle.residency.specs.declared.places.Places.{Places}
-use Rattle.residency.specs.declared.wants.Want.{Want}
 use Rattle.residency.specs.Frame.{Frame}
-use Rattle.residency.specs.State.{waits_for}
 
 -- the count of those that pass, once one item that passed or didn't does or doesn't
 abbrev pub recounted : ℕ → Bool → Bool → ℕ
@@ -116,6 +114,6 @@ abbrev pub NamesNone : BTreeMap ℕ Hold → BTreeMap ℕ Hold → Type 0
 NamesNone old new = (f : ℕ) → NamesAt (get nat_cmp old f) (get nat_cmp new f) false 0 true
 
 -- all frames hold the same, but that those that wait for the page pin it by name, or don't
-abbrev pub NamesAll : BTreeMap ℕ Hold → BTreeMap ℕ Hold → List Want → ℕ → Bool → Type 0
-NamesAll old new wants page named =
-    (f : ℕ) → NamesAt (get nat_cmp old f) (get nat_cmp new f) (waits_for wants f page) page named
+abbrev pub NamesAll : BTreeMap ℕ Hold → BTreeMap ℕ Hold → (ℕ → Bool) → ℕ → Bool → Type 0
+NamesAll old new waits page named =
+    (f : ℕ) → NamesAt (get nat_cmp old f) (get nat_cmp new f) (waits f) page named

@@ -5,10 +5,17 @@ use Rattle.residency.specs.declared.accounts.Account.{Account}
 use Rattle.residency.specs.declared.entries.Entry.{Entry}
 use Rattle.residency.specs.declared.layouts.Layout.{Layout}
 use Rattle.residency.specs.Layout.{InBounds}
-use Rattle.residency.specs.Leaf.{Ranks}
+use Rattle.residency.specs.Offer.{AreOffered}
+use Rattle.residency.specs.Parking.{Ranks}
 use Rattle.residency.specs.Recalled.{Recalls}
 use Rattle.residency.specs.Rules.{IsLegal}
-use Rattle.residency.specs.State.{state_of}
+use Rattle.residency.specs.State.{State, state_of}
+
+-- what is kept is of the state
+pub record IsAt (layout : Layout) (s : State) (account : Account) : Type 0 where
+  pub stands : Stands s.entries account.standing s
+  pub ranks : Ranks layout s.frames account.standing account.leaves
+  pub offers : AreOffered layout s account.standing.wants.queue account.offers
 
 -- what is kept of a journal
 pub record Keeps (layout : Layout) (journal : List Entry) (account : Account) : Type 0 where
@@ -16,8 +23,10 @@ pub record Keeps (layout : Layout) (journal : List Entry) (account : Account) : 
   pub stands : Stands (length journal) account.standing (state_of layout journal)
   -- the lists of frames and of makers say what the journal does
   pub recalls : Recalls journal account.recall
-  -- the counts of the pages that stand on others are right
-  pub ranks : Ranks layout (state_of layout journal) account.leaves
+  -- the leaves stand in their places
+  pub ranks : Ranks layout (state_of layout journal).frames account.standing account.leaves
+  -- the tickets of wants whose page can be taken or is being loaded stand where they are looked for
+  pub offers : AreOffered layout (state_of layout journal) account.standing.wants.queue account.offers
 
 pub record IsKept (layout : Layout) (journal : List Entry) (account : Account) : Type 0 where
   -- the layout is within its bounds

@@ -7,7 +7,11 @@ pub mod Kept
 pub mod Layout
 pub mod Leaf
 pub mod Left
+pub mod Lower
 pub mod Next
+pub mod Offer
+pub mod Queue
+pub mod Parking
 pub mod Recalled
 pub mod Rules
 pub mod Shown

@@ -1,5 +1,6 @@
 -- The state that a pool's arrays show, but for the live frames.
 use Rattle.std.specs.Prelude.{List}
+use Rattle.std.specs.BTreeMap.{values}
 use Rattle.residency.specs.declared.standings.Standing.{Standing}
 use Rattle.residency.specs.Frame.{Frame}
 use Rattle.residency.specs.State.{State}
@@ -9,7 +10,7 @@ shown standing frames = record {
   resident = standing.places.resident.items;
   loading = standing.places.loading.items;
   frames = frames;
-  wants = standing.wants.items;
+  wants = values standing.wants.queue;
   named = standing.named.items;
   stopped = standing.stopped;
   entries = standing.entries;

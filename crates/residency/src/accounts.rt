@@ -1,16 +1,21 @@
-ghost use Rattle.std.specs.Prelude.{◌≡◌, ◌++◌, ◌∷◌, ◌<◌, ◌-◌, ◌^◌, [], true, IfOk, OnOk, OnErr, List};
+ghost use Rattle.std.specs.Prelude.{◌≡◌, ◌++◌, ◌∷◌, ◌<◌, ◌-◌, ◌^◌, [], true, IfOk, OnOk, OnErr, List, ℕ};
 ghost use Rattle.residency.specs.declared.entries.Entry.{Entry};
-ghost use Rattle.residency.specs.Recalled.{Recalls};
-ghost use Rattle.residency.specs.Agreement.{Stands};
+ghost use Rattle.residency.specs.declared.entries.What.TheVariants.{Pin};
+ghost use Rattle.residency.specs.Recalled.{Recalls, frame_begun};
+ghost use Rattle.residency.specs.Agreement.{Agrees, Stands};
+ghost use Rattle.residency.specs.Frame.{Frame};
 ghost use Rattle.residency.specs.Layout.{InBounds};
-ghost use Rattle.residency.specs.Leaf.{Ranks};
+ghost use Rattle.residency.specs.Offer.{AreOffered, ListsTouched};
+ghost use Rattle.residency.specs.Parking.{Ranks};
 ghost use Rattle.residency.specs.Rules.{is_allowed, IsLegal};
-ghost use Rattle.residency.specs.State.{opening};
+ghost use Rattle.residency.specs.Shown.{shown};
+ghost use Rattle.residency.specs.State.{opening, state_of};
 
-use crate::leaves::{Leaves, places_left};
+use crate::leaves::Leaves;
+use crate::offers::Offers;
 use crate::recalls::Recall;
 use crate::standings::Standing;
-use crate::{Entry, Layout};
+use crate::{Entry, Layout, What};
 use geom_core::Memory;
 use std::alloc::Global;
 
@@ -21,25 +26,83 @@ pub struct Account {
     pub standing: Standing,
     /// What the journal told.
     pub recall: Recall,
-    /// Of the pages that stand on others.
+    /// The leaves, in the order in which they may come to be evicted.
     pub leaves: Leaves,
+    /// Of the wants whose page can be taken or is being loaded.
+    pub offers: Offers,
+}
+
+/// The frame that a Pin begins: none where its maker owns it.
+fn frame_pinned(standing: &Standing, by: u32, frame: u32) -> Option<u32>
+    ensures { (entries : ℕ) (frames : List Frame) → Agrees entries frames standing.now →
+        result ≡ frame_begun (shown standing.now frames) by (Pin frame) }
+{
+    if standing.owns(by, frame) {
+        None
+    } else {
+        Some(frame)
+    }
+}
+
+/// The frame that the entry begins: that of a Pin by a maker that doesn't own it.
+fn frame_begun(standing: &Standing, entry: &Entry) -> Option<u32>
+    ensures { (entries : ℕ) (frames : List Frame) → Agrees entries frames standing.now →
+        result ≡ frame_begun (shown standing.now frames) entry.now.by entry.now.what }
+{
+    match &entry.what {
+        What::Pin { frame } => frame_pinned(standing, entry.by, *frame),
+        _ => None,
+    }
 }
 
 impl Account {
-    ghost use Rattle.residency.specs.Kept.{Keeps};
+    ghost use Rattle.residency.specs.Kept.{IsAt, Keeps};
 
     /// Of a journal without entries.
     pub fn opening(alloc: Global, layout: &Layout) -> Result<Account, Memory>
         ensures stands { IfOk result (λ account. Stands 0 account.standing (opening layout.now)) }
         ensures recalls { IfOk result (λ account. Recalls [] account.recall) }
         ensures ranks { InBounds layout.now →
-            IfOk result (λ account. Ranks layout.now (opening layout.now) account.leaves) }
+            IfOk result (λ account. Ranks layout.now [] account.standing account.leaves) }
+        ensures offers { InBounds layout.now → IfOk result (λ account. AreOffered layout.now
+            (opening layout.now) account.standing.wants.queue account.offers) }
     {
         Ok(Account {
             standing: Standing::opening(alloc, layout)?,
             recall: Recall::opening(alloc),
             leaves: Leaves::opening(alloc, layout)?,
+            offers: Offers::opening(alloc, layout)?,
         })
+    }
+
+    /// Enters an entry but for what it tells, and what doesn't belong there any more stays in the
+    /// indexes. After Memory all stands as before, and so may what was put into the indexes.
+    fn change(
+        &mut self,
+        alloc: Global,
+        layout: &Layout,
+        entry: &Entry,
+        tickets: &[(u64, u32)],
+    ) -> Result<(), Memory>
+        requires { self.old.standing.entries < 2 ^ 64 - 1 }
+        ensures ok { (journal : List Entry) → IsAt layout.now (state_of layout.now journal) self.old →
+            InBounds layout.now → IsLegal layout.now journal →
+            is_allowed layout.now journal entry.now ≡ true →
+            ListsTouched layout.now entry.now.what self.old.standing.wants.queue tickets.now →
+            OnOk result
+            (IsAt layout.now (state_of layout.now (journal ++ entry.now ∷ [])) self.new) }
+        ensures err { (journal : List Entry) → IsAt layout.now (state_of layout.now journal) self.old →
+            InBounds layout.now → IsLegal layout.now journal →
+            is_allowed layout.now journal entry.now ≡ true →
+            OnErr result (IsAt layout.now (state_of layout.now journal) self.new) }
+        ensures recall { self.new.recall ≡ self.old.recall }
+    {
+        self.offers
+            .offer(layout, &self.standing, &entry.what, tickets)?;
+        self.leaves.offer(layout, &self.standing, &entry.what)?;
+        self.standing.enter(alloc, entry)?;
+        self.leaves.follow(layout, &entry.what);
+        Ok(())
     }
 
     /// Enters an entry. After Memory all stands as before.
@@ -54,12 +117,26 @@ impl Account {
             is_allowed layout.now journal entry.now ≡ true →
             OnErr result (Keeps layout.now journal self.new) }
     {
-        self.recall.reserve(entry)?;
-        let places = places_left(alloc, layout, &self.standing.named, &entry.what)?;
-        self.leaves.offer(layout, &self.standing, &entry.what)?;
-        self.standing.enter(alloc, entry)?;
-        self.leaves.follow(layout, &entry.what);
-        self.leaves.prune(layout, &self.standing, &places);
+        let places = self
+            .leaves
+            .places_left(alloc, layout, &self.standing, &entry.what)?;
+        let tickets = self
+            .offers
+            .tickets_touched(alloc, &self.standing.wants, &entry.what)?;
+        let begun = frame_begun(&self.standing, entry);
+        self.recall.reserve(begun, entry)?;
+        let changed = self.change(alloc, layout, entry, &tickets);
+        if changed.is_err() {
+            self.offers
+                .withdraw(layout, &self.standing, &entry.what, &tickets);
+            self.leaves.withdraw(layout, &self.standing, &entry.what);
+            self.recall.release(begun, entry);
+            return Err(Memory);
+        }
+        self.offers
+            .prune(layout, &self.standing, &entry.what, &tickets);
+        self.leaves
+            .prune(layout, &self.standing, &entry.what, &places);
         self.recall.tell(entry);
         Ok(())
     }

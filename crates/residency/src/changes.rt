@@ -1,11 +1,14 @@
-ghost use Rattle.std.specs.Prelude.{◌≡◌, ◌<◌, ◌+◌, ◌++◌, ◌-◌, ◌&&◌, ◌^◌, OnOk, OnErr, IfOk, IfSome, List, ◌==◌, Some, None, length, true, false, not, slice_set, ℕ};
+ghost use Rattle.std.specs.Prelude.{◌≡◌, ◌<◌, ◌+◌, ◌-◌, ◌^◌, OnOk, OnErr, IfSome, List, Some, None, length, true, false, slice_set};
 ghost use Rattle.residency.specs.Agreement.{Agrees, Stands};
 ghost use Rattle.residency.specs.Frame.{Frame};
 ghost use Rattle.residency.specs.Holding.{IsIndexed, NamesAll};
+ghost use Rattle.residency.specs.Layout.{ascends};
+ghost use Rattle.residency.specs.Queue.{IsNarrower, QueuesFrom, QueuesPages, is_one_of};
+ghost use Rattle.residency.specs.Parking.{Moves, Stays};
 ghost use Rattle.residency.specs.Rules.{all_resident, allows};
 ghost use Rattle.residency.specs.Shown.{shown};
 ghost use Rattle.residency.specs.Sound.{IsSound};
-ghost use Rattle.residency.specs.State.{State, is_live, is_resident, wants_of_others, wants_of, wants_without, changed, after};
+ghost use Rattle.residency.specs.State.{State, is_live, is_resident, changed, after};
 ghost use Rattle.residency.specs.Victim.{is_pinned};
 ghost use Rattle.residency.specs.declared.entries.Entry.{Entry};
 ghost use Rattle.residency.specs.declared.entries.What.TheVariants.{Pin, Settle, Ask, Narrow, Unpin, Take, Install, Starve};
@@ -14,67 +17,38 @@ ghost use Rattle.residency.specs.declared.layouts.Layout.{Layout};
 use crate::arrays::name_at;
 use crate::frames::{Frames, Hold, set_of};
 use crate::standings::Standing;
-use crate::wants::Want;
 use crate::{Entry, What};
 use geom_core::{Digest32, Memory};
-use std::alloc::{AllocError, Global};
+use std::alloc::Global;
 use std::collections::BTreeSet;
 
-/// Wants of each of the pages, behind these.
-fn add_wants(
-    mut wants: Vec<Want>,
-    frame: u32,
-    settled: bool,
-    pages: &[u32],
-) -> Result<Vec<Want>, AllocError>
-    ensures { IfOk result (λ all. all.items ≡ wants.items ++ wants_of frame settled pages.now) }
-{
-    for page in pages {
-        wants.push(Want {
-            frame,
-            page: *page,
-            settled,
-        })?;
-    }
-    Ok(wants)
-}
-
-/// Whether it is a want from a Settle, and of the page.
-fn is_waiting(want: &Want, page: u32) -> bool
-    ensures { result ≡ ((want.now.page == page) && want.now.settled) }
-{
-    want.page == page && want.settled
-}
-
-/// Makes the frames that wait for the page pin it by name no more.
-fn unname_waiting(frames: &mut Frames, wants: &[Want], page: u32)
-    ensures unnamed { NamesAll frames.old.holds frames.new.holds wants.now page false }
+/// Makes these frames, where they are live, pin the page by name no more.
+fn unname_waiting(frames: &mut Frames, waiting: &[u32], page: u32)
+    ensures unnamed { NamesAll frames.old.holds frames.new.holds (is_one_of waiting.now) page false }
     ensures moments { frames.new.moments ≡ frames.old.moments }
     ensures counts { length frames.new.counts.items ≡ length frames.old.counts.items }
     ensures indexed { IsIndexed frames.old → IsIndexed frames.new }
 {
-    for want in wants {
-        if is_waiting(want, page) {
-            frames.unname(want.frame, page);
-        }
+    for frame in waiting {
+        frames.unname(*frame, page);
     }
 }
 
-/// Makes the frames that wait for the page pin it by name. After Memory none does.
-fn name_waiting(frames: &mut Frames, wants: &[Want], page: u32) -> Result<(), Memory>
-    ensures ok { OnOk result (NamesAll frames.old.holds frames.new.holds wants.now page true) }
-    ensures err { OnErr result (NamesAll frames.old.holds frames.new.holds wants.now page false) }
+/// Makes these frames, where they are live, pin the page by name. After Memory none does.
+fn name_waiting(frames: &mut Frames, waiting: &[u32], page: u32) -> Result<(), Memory>
+    ensures ok { OnOk result
+        (NamesAll frames.old.holds frames.new.holds (is_one_of waiting.now) page true) }
+    ensures err { OnErr result
+        (NamesAll frames.old.holds frames.new.holds (is_one_of waiting.now) page false) }
     ensures moments { frames.new.moments ≡ frames.old.moments }
     ensures counts { length frames.new.counts.items ≡ length frames.old.counts.items }
     ensures indexed { IsIndexed frames.old → IsIndexed frames.new }
 {
-    for want in wants {
-        if is_waiting(want, page) {
-            let named = frames.name(want.frame, page);
-            if named.is_err() {
-                unname_waiting(frames, wants, page);
-                return Err(Memory);
-            }
+    for frame in waiting {
+        let named = frames.name(*frame, page);
+        if named.is_err() {
+            unname_waiting(frames, waiting, page);
+            return Err(Memory);
         }
     }
     Ok(())
@@ -89,61 +63,21 @@ fn write_count(counts: &mut Vec<u64>, page: u32, count: u64)
     }
 }
 
-/// Removes all wants of the page.
-fn remove_wants(wants: &mut Vec<Want>, page: u32)
-    ensures { wants.new.items ≡ wants_without page wants.old.items }
-{
-    wants.retain(|want| want.page != page);
-}
-
 impl Standing {
-    /// Whether it is a want of another frame, and that is live.
-    fn is_of_other(&self, frame: u32, want: &Want) -> bool
-        ensures { (entries : ℕ) (frames : List Frame) → Agrees entries frames self.now →
-            result ≡ (not (want.now.frame == frame) && is_live frames want.now.frame) }
-    {
-        want.frame != frame && self.is_live(want.frame)
-    }
-
-    /// The wants of the other live frames.
-    fn wants_of_others(&self, alloc: Global, frame: u32) -> Result<Vec<Want>, AllocError>
-        ensures { (entries : ℕ) (frames : List Frame) → Agrees entries frames self.now →
-            IfOk result (λ others. others.items ≡ wants_of_others (shown self.now frames) frame) }
-    {
-        let mut others = Vec::new(alloc);
-        for want in &self.wants {
-            if self.is_of_other(frame, want) {
-                others.push(*want)?;
-            }
-        }
-        Ok(others)
-    }
-
-    /// The wants after the frame wants these pages and no others.
-    fn wants_with(
-        &self,
-        alloc: Global,
-        frame: u32,
-        settled: bool,
-        pages: &[u32],
-    ) -> Result<Vec<Want>, AllocError>
-        ensures { (entries : ℕ) (frames : List Frame) → Agrees entries frames self.now →
-            IfOk result (λ wants. wants.items
-            ≡ wants_of_others (shown self.now frames) frame ++ wants_of frame settled pages.now) }
-    {
-        let others = self.wants_of_others(alloc, frame)?;
-        let wants = add_wants(others, frame, settled, pages)?;
-        Ok(wants)
-    }
-
-    /// A Pin: the frame is live, and pins what is resident.
+    /// A Pin: the frame is live, and pins what is resident. What it pinned by name it still does.
     fn pin(&mut self, alloc: Global, by: u32, frame: u32) -> Result<(), Memory>
         ensures ok { (frames : List Frame) → Agrees self.old.entries frames self.old →
             OnOk result (Stands (self.old.entries + 1) self.new
             (changed (shown self.old frames) by (Pin frame))) }
         ensures err { (frames : List Frame) → Agrees self.old.entries frames self.old →
             OnErr result (Stands self.old.entries self.new (shown self.old frames)) }
+        ensures queue { self.new.wants.queue ≡ self.old.wants.queue }
+        ensures moves { OnOk result (Moves (Pin frame) self.old self.new) }
+        ensures stays { OnErr result (Stays self.old self.new) }
     {
+        if self.frames.is_live(frame) {
+            return self.frames.look_again(by, frame, self.entries);
+        }
         let hold = Hold {
             owner: by,
             moment: Some(self.entries),
@@ -165,27 +99,46 @@ impl Standing {
         requires { self.old.entries < 2 ^ 64 - 1 }
         ensures ok { (frames : List Frame) → Agrees self.old.entries frames self.old →
             all_resident (shown self.old frames) pages.now ≡ true →
+            is_live frames frame ≡ true → ascends missing.now ≡ true →
             OnOk result (Stands (self.old.entries + 1) self.new
             (changed (shown self.old frames) by (Settle frame pages.now missing.now))) }
         ensures err { (frames : List Frame) → Agrees self.old.entries frames self.old →
             OnErr result (Stands self.old.entries self.new (shown self.old frames)) }
+        ensures from { OnOk result
+            (QueuesPages self.old.entries missing.now self.old.wants.queue self.new.wants.queue) }
+        ensures err_from { OnErr result (IsNarrower self.old.wants.queue self.new.wants.queue) }
+        ensures moves { (frames : List Frame) → Agrees self.old.entries frames self.old →
+            is_live frames frame ≡ true →
+            OnOk result (Moves (Settle frame pages.now missing.now) self.old self.new) }
+        ensures stays { OnErr result (Stays self.old self.new) }
     {
-        let wants = self.wants_with(alloc, frame, true, missing)?;
-        self.narrow(alloc, by, frame, pages)?;
-        self.wants = wants;
+        let hold = Hold {
+            owner: by,
+            moment: None,
+            pages: set_of(alloc, pages)?,
+        };
+        self.wants
+            .set(alloc, &self.frames, self.entries, frame, true, missing)?;
+        self.frames.rename(frame, hold);
+        name_at(&mut self.named, pages, self.entries + 1);
         Ok(())
     }
 
     /// An Ask: the pages become the frame's wants.
     fn ask(&mut self, alloc: Global, by: u32, frame: u32, pages: &[u32]) -> Result<(), Memory>
         ensures ok { (frames : List Frame) → Agrees self.old.entries frames self.old →
+            is_live frames frame ≡ true → ascends pages.now ≡ true →
             OnOk result (Stands (self.old.entries + 1) self.new
             (changed (shown self.old frames) by (Ask frame pages.now))) }
         ensures err { (frames : List Frame) → Agrees self.old.entries frames self.old →
             OnErr result (Stands self.old.entries self.new (shown self.old frames)) }
+        ensures from { OnOk result
+            (QueuesPages self.old.entries pages.now self.old.wants.queue self.new.wants.queue) }
+        ensures err_from { OnErr result (IsNarrower self.old.wants.queue self.new.wants.queue) }
+        ensures stays { Stays self.old self.new }
     {
-        self.wants = self.wants_with(alloc, frame, false, pages)?;
-        Ok(())
+        self.wants
+            .set(alloc, &self.frames, self.entries, frame, false, pages)
     }
 
     /// A Narrow: the pages become the frame's pins.
@@ -197,6 +150,9 @@ impl Standing {
             (changed (shown self.old frames) by (Narrow frame pages.now))) }
         ensures err { (frames : List Frame) → Agrees self.old.entries frames self.old →
             OnErr result (Stands self.old.entries self.new (shown self.old frames)) }
+        ensures queue { self.new.wants.queue ≡ self.old.wants.queue }
+        ensures moves { OnOk result (Moves (Narrow frame pages.now) self.old self.new) }
+        ensures stays { OnErr result (Stays self.old self.new) }
     {
         let hold = Hold {
             owner: by,
@@ -209,20 +165,29 @@ impl Standing {
     }
 
     /// An Unpin: the frame is live no more.
-    fn unpin(&mut self, by: u32, frame: u32)
-        ensures { (frames : List Frame) → Agrees self.old.entries frames self.old →
-            Stands (self.old.entries + 1) self.new
-            (changed (shown self.old frames) by (Unpin frame)) }
+    fn unpin(&mut self, by: u32, frame: u32) -> Result<(), Memory>
+        ensures ok { (frames : List Frame) → Agrees self.old.entries frames self.old →
+            OnOk result (Stands (self.old.entries + 1) self.new
+            (changed (shown self.old frames) by (Unpin frame))) }
+        ensures err { (frames : List Frame) → Agrees self.old.entries frames self.old →
+            OnErr result (Stands self.old.entries self.new (shown self.old frames)) }
+        ensures queue { self.new.wants.queue ≡ self.old.wants.queue }
+        ensures moves { OnOk result (Moves (Unpin frame) self.old self.new) }
+        ensures stays { OnErr result (Stays self.old self.new) }
     {
+        self.wants.end(frame)?;
         self.frames.remove(frame);
+        Ok(())
     }
 
     /// A Take: the page is being loaded, and its victim is resident no more.
     fn take(&mut self, by: u32, frame: Option<u32>, page: u32, victim: Option<u32>)
-        ensures { (frames : List Frame) → Agrees self.old.entries frames self.old →
+        ensures taken { (frames : List Frame) → Agrees self.old.entries frames self.old →
             IfSome victim (λ v. is_pinned (shown self.old frames) v ≡ false) →
             Stands (self.old.entries + 1) self.new
             (changed (shown self.old frames) by (Take frame page victim)) }
+        ensures queue { self.new.wants.queue ≡ self.old.wants.queue }
+        ensures stays { Stays self.old self.new }
     {
         self.places.set_loader(page, Some(by));
         if let Some(victim) = victim {
@@ -231,17 +196,23 @@ impl Standing {
     }
 
     /// The end of a load: the page is being loaded no more, and nobody wants it.
-    fn end_load(&mut self, by: u32, page: u32)
-        ensures { (frames : List Frame) → Agrees self.old.entries frames self.old →
-            Stands (self.old.entries + 1) self.new
-            (changed (shown self.old frames) by (Starve page)) }
+    fn end_load(&mut self, alloc: Global, by: u32, page: u32) -> Result<(), Memory>
+        ensures ok { (frames : List Frame) → Agrees self.old.entries frames self.old →
+            OnOk result (Stands (self.old.entries + 1) self.new
+            (changed (shown self.old frames) by (Starve page))) }
+        ensures err { (frames : List Frame) → Agrees self.old.entries frames self.old →
+            OnErr result (Stands self.old.entries self.new (shown self.old frames)) }
+        ensures narrower { IsNarrower self.old.wants.queue self.new.wants.queue }
+        ensures stays { Stays self.old self.new }
     {
+        let tickets = self.wants.tickets_of_page(alloc, page)?;
         self.places.set_loader(page, None);
-        remove_wants(&mut self.wants, page);
+        self.wants.take_all(tickets);
+        Ok(())
     }
 
     /// An Install: the page is resident, and pinned by the frames that wait for it.
-    fn install(&mut self, by: u32, page: u32, digest: Digest32) -> Result<(), Memory>
+    fn install(&mut self, alloc: Global, by: u32, page: u32, digest: Digest32) -> Result<(), Memory>
         requires { self.old.entries < 2 ^ 64 - 1 }
         ensures ok { (frames : List Frame) → Agrees self.old.entries frames self.old →
             is_resident (shown self.old frames) page ≡ false →
@@ -251,14 +222,21 @@ impl Standing {
         ensures err { (frames : List Frame) → Agrees self.old.entries frames self.old →
             is_resident (shown self.old frames) page ≡ false →
             OnErr result (Stands self.old.entries self.new (shown self.old frames)) }
+        ensures narrower { IsNarrower self.old.wants.queue self.new.wants.queue }
+        ensures moves { OnOk result (Moves (Install page digest) self.old self.new) }
+        ensures stays { (frames : List Frame) → Agrees self.old.entries frames self.old →
+            is_resident (shown self.old frames) page ≡ false →
+            OnErr result (Stays self.old self.new) }
     {
-        name_waiting(&mut self.frames, &self.wants, page)?;
+        let tickets = self.wants.tickets_of_page(alloc, page)?;
+        let waiting = self.wants.waiting_at(alloc, &tickets)?;
+        name_waiting(&mut self.frames, &waiting, page)?;
         let count = self.entries + 1;
         self.places.set_resident(page, true);
         self.places.set_loader(page, None);
         write_count(&mut self.since, page, count);
         write_count(&mut self.named, page, count);
-        remove_wants(&mut self.wants, page);
+        self.wants.take_all(tickets);
         Ok(())
     }
 
@@ -274,6 +252,17 @@ impl Standing {
             Agrees self.old.entries frames self.old → IsSound layout (shown self.old frames) →
             allows layout (shown self.old frames) journal by what.now ≡ true →
             OnErr result (Stands self.old.entries self.new (shown self.old frames)) }
+        ensures from { OnOk result
+            (QueuesFrom what.now self.old.entries self.old.wants.queue self.new.wants.queue) }
+        ensures err_from { OnErr result (IsNarrower self.old.wants.queue self.new.wants.queue) }
+        ensures moves { (layout : Layout) (journal : List Entry) (frames : List Frame) →
+            Agrees self.old.entries frames self.old → IsSound layout (shown self.old frames) →
+            allows layout (shown self.old frames) journal by what.now ≡ true →
+            OnOk result (Moves what.now self.old self.new) }
+        ensures stays { (layout : Layout) (journal : List Entry) (frames : List Frame) →
+            Agrees self.old.entries frames self.old → IsSound layout (shown self.old frames) →
+            allows layout (shown self.old frames) journal by what.now ≡ true →
+            OnErr result (Stays self.old self.new) }
     {
         match what {
             What::Pin { frame } => return self.pin(alloc, by, *frame),
@@ -286,15 +275,15 @@ impl Standing {
             What::Narrow { frame, pages } => {
                 return self.narrow(alloc, by, *frame, pages.as_slice());
             }
-            What::Unpin { frame } => self.unpin(by, *frame),
+            What::Unpin { frame } => return self.unpin(by, *frame),
             What::Take {
                 frame,
                 page,
                 victim,
             } => self.take(by, *frame, *page, *victim),
-            What::Install { page, digest } => return self.install(by, *page, *digest),
+            What::Install { page, digest } => return self.install(alloc, by, *page, *digest),
             What::Fail { page, .. } | What::Spoil { page, .. } | What::Starve { page } => {
-                self.end_load(by, *page);
+                return self.end_load(alloc, by, *page);
             }
             What::Full { .. } => {}
             What::Stop => self.stopped = true,
@@ -313,6 +302,19 @@ impl Standing {
             Stands s.entries self.old s → IsSound layout s →
             allows layout s journal entry.now.by entry.now.what ≡ true →
             OnErr result (Stands s.entries self.new s) }
+
+        // What stands in the queue afterwards stood there before, or came by the entry.
+        ensures from { OnOk result (QueuesFrom entry.now.what
+            self.old.entries self.old.wants.queue self.new.wants.queue) }
+        ensures err_from { OnErr result (IsNarrower self.old.wants.queue self.new.wants.queue) }
+        ensures moves { (layout : Layout) (journal : List Entry) (s : State) →
+            Stands s.entries self.old s → IsSound layout s →
+            allows layout s journal entry.now.by entry.now.what ≡ true →
+            OnOk result (Moves entry.now.what self.old self.new) }
+        ensures stays { (layout : Layout) (journal : List Entry) (s : State) →
+            Stands s.entries self.old s → IsSound layout s →
+            allows layout s journal entry.now.by entry.now.what ≡ true →
+            OnErr result (Stays self.old self.new) }
     {
         let count = self.entries + 1;
         self.change(alloc, entry.by, &entry.what)?;

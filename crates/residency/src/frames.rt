@@ -1,8 +1,9 @@
-ghost use Rattle.std.specs.Prelude.{◌≡◌, ◌+◌, ◌-◌, ◌<◌, ◌≤◌, ◌^◌, ℕ, IfOk, IfSome, IsSome, IsTrue, OnOk, OnErr, OnSome, None, Some, true, false, length, min, nat_eq, slice_index_or, ◌⊎◌};
-ghost use Rattle.std.specs.BTreeMap.{get, Updates, IsUnchanged};
+ghost use Rattle.std.specs.Prelude.{◌≡◌, ◌≢◌, ◌+◌, ◌-◌, ◌<◌, ◌≤◌, ◌^◌, ℕ, IfOk, IfSome, IsSome, IsTrue, OnOk, OnErr, OnSome, None, Some, true, false, length, min, nat_eq, slice_index_or, ◌⊎◌, cond, is_some};
+ghost use Rattle.std.specs.BTreeMap.{get, is_at, Updates, IsUnchanged};
 ghost use Rattle.std.specs.BTreeSet as set;
 ghost use Rattle.std.specs.List.{list_any};
 ghost use Rattle.std.specs.Ordering.{nat_cmp};
+ghost use Rattle.residency.specs.Parking.{names};
 ghost use Rattle.residency.specs.Holding.{IsIndexed, NamesNone, NamesOne, moment_in, named_by, one, listed, unlisted};
 
 use crate::arrays::{count_at, lower, raise};
@@ -38,11 +39,7 @@ pub fn set_of(alloc: Global, pages: &[u32]) -> Result<BTreeSet<u32>, AllocError>
     ensures { IfOk result (λ named. (page : ℕ) →
         set.contains nat_cmp named page ≡ list_any (nat_eq page) pages.now) }
 {
-    let mut named = BTreeSet::new(alloc);
-    for page in pages {
-        named.insert(*page)?;
-    }
-    Ok(named)
+    pages.iter().copied().collect(alloc)
 }
 
 /// Counts one frame more at each of the pages.
@@ -72,6 +69,7 @@ fn list(moments: &mut BTreeMap<u64, u32>, moment: Option<u64>, frame: u32) -> Re
     ensures ok { OnOk result ((m : ℕ) → get nat_cmp moments.new m
         ≡ listed (get nat_cmp moments.old) moment frame m) }
     ensures err { OnErr result (IsUnchanged moments.old moments.new) }
+    ensures some { OnErr result (IsSome moment) }
 {
     if let Some(moment) = moment {
         moments.insert(moment, frame)?;
@@ -130,6 +128,13 @@ impl Frames {
         })
     }
 
+    /// Whether the frame is live.
+    pub fn is_live(&self, frame: u32) -> bool
+        ensures { result ≡ is_some (get nat_cmp self.now.holds frame) }
+    {
+        self.holds.contains_key(&frame)
+    }
+
     /// Whether some live frame pins the page by name.
     pub fn is_named(&self, page: u32) -> bool
         ensures named { IsIndexed self.now → result ≡ true →
@@ -140,6 +145,50 @@ impl Frames {
             set.contains nat_cmp hold.pages page ≡ false }
     {
         count_at(&self.counts, page) > 0
+    }
+
+    /// Whether more than one live frame pins the page by name.
+    pub fn is_shared(&self, page: u32) -> bool
+        ensures { IsIndexed self.now → result ≡ true → (frame : ℕ) →
+            (f : ℕ) × (f ≢ frame) × (names self.now.holds f page ≡ true) }
+    {
+        count_at(&self.counts, page) > 1
+    }
+
+    /// The greatest moment of a live frame.
+    pub fn last_moment(&self) -> Option<u64>
+        ensures { IfSome result (λ m. IsSome (get nat_cmp self.now.moments m)) }
+    {
+        match self.moments.last_key_value() {
+            Some((moment, _)) => Some(*moment),
+            None => None,
+        }
+    }
+
+    /// The greatest moment of a live frame before this one, and the frame.
+    fn last_before(&self, moment: u64) -> Option<(u64, u32)>
+        ensures { IfSome result (λ last. get nat_cmp self.now.moments last.0 ≡ Some last.1) }
+    {
+        match self.moments.range(..moment).next_back() {
+            Some((moment, frame)) => Some((*moment, *frame)),
+            None => None,
+        }
+    }
+
+    /// The greatest moment of a live frame but this one.
+    pub fn moment_without(&self, frame: u32) -> Option<u64>
+        ensures { IfSome result (λ m. (f : ℕ) × (f ≢ frame)
+            × (get nat_cmp self.now.moments m ≡ Some f)) }
+    {
+        let (last, other) = self.moments.last_key_value()?;
+        if *other != frame {
+            return Some(*last);
+        }
+        let (moment, other) = self.last_before(*last)?;
+        if other != frame {
+            return Some(moment);
+        }
+        None
     }
 
     /// Whether some live frame has a moment at which a page was there that came at this count.
@@ -167,6 +216,8 @@ impl Frames {
         ensures indexed { IsIndexed self.old →
             ((m : ℕ) → hold.moment ≡ Some m → get nat_cmp self.old.moments m ≡ None) →
             IsIndexed self.new }
+        ensures absent { OnErr result (hold.moment ≡ None →
+            get nat_cmp self.old.holds frame ≡ None) }
     {
         let moment = hold.moment;
         list(&mut self.moments, moment, frame)?;
@@ -181,6 +232,48 @@ impl Frames {
         let _live = self.holds.len();
         raise_for(&mut self.counts, &self.holds, frame);
         release(&mut self.moments, &mut self.counts, old);
+        Ok(())
+    }
+
+    /// Makes a live frame pin by name what this holds, and nothing else: it has no moment.
+    pub fn rename(&mut self, frame: u32, hold: Hold)
+        requires { hold.moment ≡ None }
+        ensures put { is_some (get nat_cmp self.old.holds frame) ≡ true →
+            (f : ℕ) → get nat_cmp self.new.holds f
+            ≡ cond (is_at (nat_cmp frame) f) (Some hold) (get nat_cmp self.old.holds f) }
+        ensures moments { (m : ℕ) → IsSome (get nat_cmp self.new.moments m) →
+            IsSome (get nat_cmp self.old.moments m) }
+        ensures counts { length self.new.counts.items ≡ length self.old.counts.items }
+        ensures indexed { IsIndexed self.old → IsIndexed self.new }
+    {
+        // What a live frame holds is replaced in its place, so nothing is refused.
+        let _put = self.put(frame, hold);
+    }
+
+    /// Makes a live frame one that this maker pinned at this moment; what it pinned by name it still
+    /// does. After Memory all is as before.
+    pub fn look_again(&mut self, by: u32, frame: u32, moment: u64) -> Result<(), Memory>
+        requires { is_some (get nat_cmp self.old.holds frame) ≡ true }
+        ensures ok { OnOk result ((hold : Hold) → get nat_cmp self.old.holds frame ≡ Some hold →
+            (f : ℕ) → get nat_cmp self.new.holds f ≡ cond (is_at (nat_cmp frame) f)
+            (Some (record hold { owner = by; moment = Some moment }))
+            (get nat_cmp self.old.holds f)) }
+        ensures err { OnErr result (IsUnchanged self.old.holds self.new.holds) }
+        ensures moments { OnOk result ((m : ℕ) → IsSome (get nat_cmp self.new.moments m) →
+            (m ≡ moment) ⊎ IsSome (get nat_cmp self.old.moments m)) }
+        ensures err_moments { OnErr result ((m : ℕ) → IsSome (get nat_cmp self.new.moments m) →
+            IsSome (get nat_cmp self.old.moments m)) }
+        ensures counts { self.new.counts ≡ self.old.counts }
+        ensures indexed { IsIndexed self.old → get nat_cmp self.old.moments moment ≡ None →
+            IsIndexed self.new }
+    {
+        list(&mut self.moments, Some(moment), frame)?;
+        if let Some(hold) = self.holds.get_mut(&frame) {
+            let last = hold.moment;
+            hold.owner = by;
+            hold.moment = Some(moment);
+            unlist(&mut self.moments, last);
+        }
         Ok(())
     }
 

@@ -1,15 +1,14 @@
-ghost use Rattle.std.specs.Prelude.{◌≡◌, ◌==◌, ◌&&◌, ◌++◌, ◌+◌, ◌-◌, ◌<◌, ◌^◌, ℕ, Bool, IfOk, OnOk, IsTrue, count_by, length, min, nat_eq, nat_lt, slice_index_or, replicate, true, List};
-ghost use Rattle.std.specs.List.{list_any};
+ghost use Rattle.std.specs.Prelude.{◌≡◌, ◌+◌, ◌-◌, ◌<◌, ◌^◌, ℕ, Bool, IfOk, OnOk, count_by, length, min, nat_eq, slice_index_or, true, List};
 ghost use Rattle.residency.specs.declared.entries.Entry.{Entry};
-ghost use Rattle.residency.specs.Layout.{InBounds, is_upper, uppers_of};
-ghost use Rattle.residency.specs.Leaf.{Begins, CountsLowers, IsListed, IsWider, Ranks, is_leaf, pages_left, places_of, ranks};
+ghost use Rattle.residency.specs.declared.layouts.Layout.{Layout};
 ghost use Rattle.residency.specs.Frame.{Frame};
+ghost use Rattle.residency.specs.Layout.{InBounds};
+ghost use Rattle.residency.specs.Leaf.{Begins, CountsLowers, IsWider, Removes, is_leaf, ranks};
 ghost use Rattle.residency.specs.Rules.{allows};
 ghost use Rattle.residency.specs.Shown.{shown};
-ghost use Rattle.residency.specs.Victim.{is_stood_on, named_of};
-ghost use Rattle.residency.specs.declared.layouts.Layout.{Layout};
 ghost use Rattle.residency.specs.Sound.{IsSound};
 ghost use Rattle.residency.specs.State.{State, changed, is_held, opening};
+ghost use Rattle.residency.specs.Victim.{is_stood_on};
 
 use crate::arrays::{count_at, lower, raise, zeros};
 use crate::pages::uppers_of;
@@ -20,15 +19,48 @@ use std::alloc::Global;
 use std::cmp::Reverse;
 use std::collections::BTreeSet;
 
-/// What is kept of the pages that stand on others, and of the leaves, the resident pages that no
-/// resident or loading page stands on.
+/// What is kept of the pages that stand on others, and of the leaves, the resident pages but for root
+/// pages that no resident or loading page stands on.
+///
+/// A place is a count of entries with a page; that of the least count comes first, of equals that of
+/// the greatest page. Others than those that are told may stand among the places.
 #[derive(Debug, Drop)]
 pub struct Leaves {
     /// By page: how many resident or loading pages stand on it.
     pub lowers: Vec<u64>,
-    /// The leaves but for root pages, each with the count of entries at which it was last named: the
-    /// one named least recently first, of equals the greatest. Others may stand between them.
+    /// The places of the leaves that no live frame pins, as they were last named.
     pub order: BTreeSet<(u64, Reverse<u32>)>,
+    /// The places, as they were installed, of leaves that a frame's moment covers and no frame pins by
+    /// name. They go into `order` once no moment covers them.
+    pub parked: BTreeSet<(u64, Reverse<u32>)>,
+}
+
+/// Puts the page among the places, at this count. After Memory all is as before.
+pub fn insert(
+    places: &mut BTreeSet<(u64, Reverse<u32>)>,
+    count: u64,
+    page: u32,
+) -> Result<(), Memory>
+    ensures wider { IsWider places.old places.new }
+    ensures ok { OnOk result (ranks places.new count page ≡ true) }
+{
+    places.insert((count, Reverse(page)))?;
+    Ok(())
+}
+
+/// Removes the page from the places, at this count; answers whether it stood there.
+pub fn remove(places: &mut BTreeSet<(u64, Reverse<u32>)>, count: u64, page: u32) -> bool
+    ensures stood { result ≡ ranks places.old count page }
+    ensures removed { Removes places.old places.new count page }
+{
+    places.remove(&(count, Reverse(page)))
+}
+
+/// Whether the page stands among the places, at this count.
+pub fn stands(places: &BTreeSet<(u64, Reverse<u32>)>, count: u64, page: u32) -> bool
+    ensures { result ≡ ranks places.now count page }
+{
+    places.contains(&(count, Reverse(page)))
 }
 
 /// Counts one more at each of the pages.
@@ -53,63 +85,17 @@ fn lower_all(counts: &mut [u64], pages: &[u32])
     }
 }
 
-/// The places behind these of each of the pages, as they were last named.
-fn add_places(
-    mut places: Vec<(u64, u32)>,
-    named: &[u64],
-    pages: &[u32],
-) -> Result<Vec<(u64, u32)>, Memory>
-    ensures { IfOk result (λ all. all.items ≡ places.items ++ places_of named.now pages.now) }
-{
-    for page in pages {
-        places.push((count_at(named, *page), *page))?;
-    }
-    Ok(places)
-}
-
-/// The places among the leaves that the entry may leave without one.
-pub fn places_left(
-    alloc: Global,
-    layout: &Layout,
-    named: &[u64],
-    what: &What,
-) -> Result<Vec<(u64, u32)>, Memory>
-    ensures { IfOk result (λ places. places.items
-        ≡ places_of named.now (pages_left layout.now what.now)) }
-{
-    let places = Vec::new(alloc);
-    match what {
-        What::Settle { pages, .. } | What::Narrow { pages, .. } => {
-            add_places(places, named, pages.as_slice())
-        }
-        What::Take { page, victim, .. } => {
-            let places = add_places(places, named, uppers_of(layout, *page))?;
-            match victim {
-                Some(victim) => {
-                    let places = add_places(places, named, &[*victim])?;
-                    add_places(places, named, uppers_of(layout, *victim))
-                }
-                None => Ok(places),
-            }
-        }
-        What::Fail { page, .. } | What::Spoil { page, .. } | What::Starve { page } => {
-            add_places(places, named, uppers_of(layout, *page))
-        }
-        _ => Ok(places),
-    }
-}
-
 impl Leaves {
     /// Before any entry: the root pages are resident.
     pub fn opening(alloc: Global, layout: &Layout) -> Result<Leaves, Memory>
         ensures lowers { InBounds layout.now →
-            IfOk result (λ leaves. CountsLowers layout.now (is_held (opening layout.now)) leaves.lowers.items) }
-        ensures listed { InBounds layout.now →
-            IfOk result (λ leaves. IsListed layout.now (opening layout.now) leaves.order) }
+            IfOk result (λ leaves. CountsLowers layout.now (is_held (opening layout.now))
+            leaves.lowers.items) }
     {
         let mut leaves = Leaves {
             lowers: zeros(alloc, layout.pages)?,
             order: BTreeSet::new(alloc),
+            parked: BTreeSet::new(alloc),
         };
         for root in 0..layout.roots {
             leaves.begin(layout, root);
@@ -127,8 +113,10 @@ impl Leaves {
     }
 
     /// Whether the page is resident and no root page, and no resident or loading page stands on it.
-    fn is_leaf(&self, layout: &Layout, standing: &Standing, page: u32) -> bool
-        ensures { (frames : List Frame) → Ranks layout.now (shown standing.now frames) self.now →
+    pub fn is_leaf(&self, layout: &Layout, standing: &Standing, page: u32) -> bool
+        ensures { (frames : List Frame) →
+            CountsLowers layout.now (is_held (shown standing.now frames)) self.now.lowers.items →
+            length standing.now.places.resident.items ≡ layout.now.pages →
             result ≡ is_leaf layout.now (shown standing.now frames) page }
     {
         if !standing.is_resident(page) {
@@ -137,109 +125,13 @@ impl Leaves {
         page >= layout.roots && !self.is_stood_on(page)
     }
 
-    /// Whether the page is a leaf and was last named at this count of entries.
-    fn is_current(&self, layout: &Layout, standing: &Standing, named: u64, page: u32) -> bool
-        ensures { (frames : List Frame) → Ranks layout.now (shown standing.now frames) self.now →
-            result ≡ ((named_of (shown standing.now frames) page == named)
-            && is_leaf layout.now (shown standing.now frames) page) }
-    {
-        count_at(&standing.named, page) == named && self.is_leaf(layout, standing, page)
-    }
-
-    /// Lets the page stand among the leaves no more as one that was named at this count of entries,
-    /// unless it is a leaf and was last named then.
-    fn remove(&mut self, layout: &Layout, standing: &Standing, named: u64, page: u32)
-        ensures { (frames : List Frame) → Ranks layout.now (shown standing.now frames) self.old →
-            Ranks layout.now (shown standing.now frames) self.new }
-    {
-        if !self.is_current(layout, standing, named, page) {
-            self.order.remove(&(named, Reverse(page)));
-        }
-    }
-
-    /// Lets pages that are leaves no more, or were named again, stand among the leaves no more; each
-    /// is told with the count of entries at which it was named before.
-    pub fn prune(&mut self, layout: &Layout, standing: &Standing, places: &[(u64, u32)])
-        ensures { (frames : List Frame) → Ranks layout.now (shown standing.now frames) self.old →
-            Ranks layout.now (shown standing.now frames) self.new }
-    {
-        for place in places {
-            let (named, page) = *place;
-            self.remove(layout, standing, named, page);
-            self.remove(layout, standing, count_at(&standing.named, page), page);
-        }
-    }
-
-    /// Puts a page that was named at this count of entries among the leaves. After Memory all is as before.
-    fn insert(&mut self, named: u64, page: u32) -> Result<(), Memory>
-        ensures wider { IsWider self.old.order self.new.order }
-        ensures ok { OnOk result (ranks self.new.order named page ≡ true) }
-        ensures lowers { self.new.lowers ≡ self.old.lowers }
-    {
-        self.order.insert((named, Reverse(page)))?;
-        Ok(())
-    }
-
-    /// Puts each of the pages among the leaves, as named at this count of entries.
-    fn insert_all(&mut self, named: u64, pages: &[u32]) -> Result<(), Memory>
-        ensures wider { IsWider self.old.order self.new.order }
-        ensures ok { OnOk result ((page : ℕ) → list_any (λ p. p == page) pages.now ≡ true →
-            ranks self.new.order named page ≡ true) }
-        ensures lowers { self.new.lowers ≡ self.old.lowers }
-    {
-        for page in pages {
-            self.insert(named, *page)?;
-        }
-        Ok(())
-    }
-
-    /// Puts each upper of the page among the leaves, as it was last named.
-    fn insert_uppers(&mut self, layout: &Layout, named: &[u64], page: u32) -> Result<(), Memory>
-        ensures wider { IsWider self.old.order self.new.order }
-        ensures ok { OnOk result ((upper : ℕ) → is_upper layout.now upper page ≡ true →
-            ranks self.new.order (slice_index_or named.now upper 0) upper ≡ true) }
-        ensures lowers { self.new.lowers ≡ self.old.lowers }
-    {
-        for upper in uppers_of(layout, page) {
-            self.insert(count_at(named, *upper), *upper)?;
-        }
-        Ok(())
-    }
-
-    /// Puts the pages that become leaves by the entry among them.
-    pub fn offer(&mut self, layout: &Layout, standing: &Standing, what: &What) -> Result<(), Memory>
-        requires { standing.now.entries < 2 ^ 64 - 1 }
-        ensures wider { IsWider self.old.order self.new.order }
-        ensures ok { (s : State) (journal : List Entry) (by : ℕ) → IsSound layout.now s →
-            allows layout.now s journal by what.now ≡ true →
-            s.named ≡ standing.now.named.items → s.entries ≡ standing.now.entries →
-            length s.named ≡ layout.now.pages → IsListed layout.now s self.old.order →
-            OnOk result (IsListed layout.now (changed s by what.now) self.new.order) }
-        ensures lowers { self.new.lowers ≡ self.old.lowers }
-    {
-        let count = standing.entries + 1;
-        match what {
-            What::Settle { pages, .. } | What::Narrow { pages, .. } => {
-                self.insert_all(count, pages.as_slice())
-            }
-            What::Install { page, .. } => self.insert(count, *page),
-            What::Take { victim, .. } => match victim {
-                Some(victim) => self.insert_uppers(layout, &standing.named, *victim),
-                None => Ok(()),
-            },
-            What::Fail { page, .. } | What::Spoil { page, .. } | What::Starve { page } => {
-                self.insert_uppers(layout, &standing.named, *page)
-            }
-            _ => Ok(()),
-        }
-    }
-
     /// Counts a page that is resident or being loaded from now on at each of its uppers.
     fn begin(&mut self, layout: &Layout, page: u32)
         ensures lowers { (held held' : ℕ → Bool) → InBounds layout.now →
             Begins layout.now held held' page → CountsLowers layout.now held self.old.lowers.items →
             CountsLowers layout.now held' self.new.lowers.items }
         ensures order { self.new.order ≡ self.old.order }
+        ensures parked { self.new.parked ≡ self.old.parked }
     {
         raise_all(&mut self.lowers, uppers_of(layout, page));
     }
@@ -250,6 +142,7 @@ impl Leaves {
             Begins layout.now held' held page → CountsLowers layout.now held self.old.lowers.items →
             CountsLowers layout.now held' self.new.lowers.items }
         ensures order { self.new.order ≡ self.old.order }
+        ensures parked { self.new.parked ≡ self.old.parked }
     {
         lower_all(&mut self.lowers, uppers_of(layout, page));
     }
@@ -261,6 +154,7 @@ impl Leaves {
             CountsLowers layout.now (is_held s) self.old.lowers.items →
             CountsLowers layout.now (is_held (changed s by what.now)) self.new.lowers.items }
         ensures order { self.new.order ≡ self.old.order }
+        ensures parked { self.new.parked ≡ self.old.parked }
     {
         match what {
             What::Take { page, victim, .. } => {

@@ -20,8 +20,12 @@ pub mod laws;
 mod layouts;
 mod leaves;
 mod lines;
+mod lowers;
 mod nexts;
 mod numbers;
+#[cfg(test)]
+mod offer_tests;
+mod offers;
 mod page_lists;
 mod pages;
 mod parts;
@@ -29,8 +33,10 @@ mod places;
 #[cfg(test)]
 mod pool_tests;
 mod pools;
+mod prunes;
 mod reading;
 mod recalls;
+mod releases;
 mod round_trips;
 mod rules;
 mod standings;

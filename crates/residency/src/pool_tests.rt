@@ -1,6 +1,7 @@
 use crate::{Entries, Entry, Layout, Next, Pool, ReplayFault, Spoilt, StepFault, Uppers, What};
 use geom_core::{Digest32, Memory, Nums};
 use std::alloc::{AllocError, Global};
+use std::fmt::Write;
 use std::process::Abort;
 use std::test::Fail;
 
@@ -488,26 +489,24 @@ fn enter(alloc: Global, pool: &mut Pool, act: (u32, Act<'_>)) -> Result<(), Step
     pool.step(alloc, made)
 }
 
-/// What shows of a pool: its number of entries, and what comes next for the frames 0 and 1 and for all.
-fn shown(pool: &Pool) -> (usize, Next, Next, Next) {
-    (
-        pool.journal().len(),
-        pool.next_for(Some(0)),
-        pool.next_for(Some(1)),
-        pool.next_for(None),
-    )
+/// The pool as `Debug` writes it, with all that is kept to find answers.
+fn written(alloc: Global, pool: &Pool) -> Result<String, Memory> {
+    let mut text = String::with_capacity(alloc, 1 << 14)?;
+    write!(text, "{pool:?}").map_err(|_| Memory)?;
+    Ok(text)
 }
 
-/// Whether the pool is as before after each step that memory refused; each such step is tried again.
+/// Whether the pool is as before after each step that memory refused, to its last index; each such
+/// step is tried again.
 fn stays_as_before(
     alloc: Global,
     pool: &mut Pool,
     acts: &[(u32, Act<'_>)],
 ) -> Result<bool, StepFault> {
     for act in acts {
-        let before = shown(pool);
+        let before = written(alloc, pool)?;
         if enter(alloc, pool, *act) == Err(StepFault::Memory) {
-            if shown(pool) != before {
+            if written(alloc, pool)? != before {
                 return Ok(false);
             }
             enter(alloc, pool, *act)?;

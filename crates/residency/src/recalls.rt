@@ -1,38 +1,23 @@
-ghost use Rattle.std.specs.Prelude.{◌≡◌, ◌++◌, ◌∷◌, [], List, ℕ, OnOk, None, Some, IsSome, unwrap_or, nat_eq, false};
+ghost use Rattle.std.specs.Prelude.{◌≡◌, ◌++◌, ◌∷◌, [], List, ℕ, OnOk, OnErr, Option, None, Some, IsSome, unwrap_or, nat_eq, false};
 ghost use Rattle.std.specs.BTreeMap.{get};
+ghost use Rattle.std.specs.BTreeSet as set;
 ghost use Rattle.std.specs.Ordering.{nat_cmp};
 ghost use Rattle.residency.specs.declared.entries.Entry.{Entry};
-ghost use Rattle.residency.specs.Recalled.{frame_of, faults_of, Recalls, HasRoomFor};
+ghost use Rattle.residency.specs.Recalled.{Awaits, Begins, HasRoomFor, IsNew, Recalls, faults_of};
 ghost use Rattle.residency.specs.Rules.{has_entry, last_after};
 
 use crate::{Entry, What};
 use geom_core::Memory;
 use std::alloc::{AllocError, Global};
-use std::collections::BTreeMap;
+use std::collections::{BTreeMap, BTreeSet};
 
 /// What is kept of a journal's frames and makers, so that no entry has to look back through it.
 #[derive(Debug, Drop)]
 pub struct Recall {
-    /// By frame: whether it has an entry. A frame that isn't listed has none.
-    pub begun: BTreeMap<u32, bool>,
+    /// The frames that have an entry.
+    pub begun: BTreeSet<u32>,
     /// By maker: the count of faults after its last Fail. A maker that isn't listed has 0.
     pub faults: BTreeMap<u32, u64>,
-}
-
-/// The frame that an entry names, if it names one.
-fn frame_of(what: &What) -> Option<u32>
-    ensures { result ≡ frame_of what.now }
-{
-    match what {
-        What::Pin { frame }
-        | What::Settle { frame, .. }
-        | What::Ask { frame, .. }
-        | What::Narrow { frame, .. }
-        | What::Unpin { frame }
-        | What::Full { frame } => Some(*frame),
-        What::Take { frame, .. } => *frame,
-        _ => None,
-    }
 }
 
 /// The count of faults that a Fail ends with.
@@ -43,18 +28,6 @@ fn faults_of(what: &What) -> Option<u64>
         What::Fail { after, .. } => Some(*after),
         _ => None,
     }
-}
-
-/// Lists the frame, where it isn't listed, as one without an entry.
-fn list_frame(begun: &mut BTreeMap<u32, bool>, frame: u32) -> Result<(), AllocError>
-    ensures kept { (f : ℕ) → unwrap_or (get nat_cmp begun.new f) false
-        ≡ unwrap_or (get nat_cmp begun.old f) false }
-    ensures listed { OnOk result (IsSome (get nat_cmp begun.new frame)) }
-{
-    if !begun.contains_key(&frame) {
-        begun.insert(frame, false)?;
-    }
-    Ok(())
 }
 
 /// Lists the maker, where it isn't listed, as one without a Fail.
@@ -69,15 +42,24 @@ fn list_maker(faults: &mut BTreeMap<u32, u64>, by: u32) -> Result<(), AllocError
     Ok(())
 }
 
+/// Lists the maker no more, where its last count of faults is 0.
+fn unlist_maker(faults: &mut BTreeMap<u32, u64>, by: u32)
+    ensures { (b : ℕ) → unwrap_or (get nat_cmp faults.new b) 0
+        ≡ unwrap_or (get nat_cmp faults.old b) 0 }
+{
+    if faults.get(&by).copied().unwrap_or(0) == 0 {
+        faults.remove(&by);
+    }
+}
+
 /// Writes the value of a key that is listed.
-fn relist<V: Drop>(map: &mut BTreeMap<u32, V>, key: u32, value: V)
+fn relist<V: Copy + Drop>(map: &mut BTreeMap<u32, V>, key: u32, value: V)
     requires { IsSome (get nat_cmp map.old key) }
     ensures here { get nat_cmp map.new key ≡ Some value }
     ensures apart { (q : ℕ) → nat_eq key q ≡ false → get nat_cmp map.new q ≡ get nat_cmp map.old q }
 {
-    match map.insert(key, value) {
-        Ok(_) => {}
-        Err(_) => unreachable!(),
+    if let Some(listed) = map.get_mut(&key) {
+        *listed = value;
     }
 }
 
@@ -87,7 +69,7 @@ impl Recall {
         ensures { Recalls [] result }
     {
         Recall {
-            begun: BTreeMap::new(alloc),
+            begun: BTreeSet::new(alloc),
             faults: BTreeMap::new(alloc),
         }
     }
@@ -97,7 +79,7 @@ impl Recall {
         ensures { (journal : List Entry) → Recalls journal self.now →
             result ≡ has_entry frame journal }
     {
-        self.begun.get(&frame).copied().unwrap_or(false)
+        self.begun.contains(&frame)
     }
 
     /// The count of faults after the maker's last Fail, 0 where it has none.
@@ -108,30 +90,43 @@ impl Recall {
         self.faults.get(&by).copied().unwrap_or(0)
     }
 
-    /// Lists what the entry tells of, and nothing is told yet.
-    pub fn reserve(&mut self, entry: &Entry) -> Result<(), Memory>
-        ensures kept { (journal : List Entry) → Recalls journal self.old →
-            Recalls journal self.new }
+    /// Lists the frame that the entry begins, and the maker of a Fail, of which nothing is told yet.
+    pub fn reserve(&mut self, begun: Option<u32>, entry: &Entry) -> Result<(), Memory>
         ensures room { OnOk result (HasRoomFor entry.now self.new) }
+        ensures ok { (journal : List Entry) → Recalls journal self.old →
+            OnOk result (Awaits journal begun entry.now self.new) }
+        ensures err { (journal : List Entry) → Recalls journal self.old →
+            OnErr result (Recalls journal self.new) }
     {
-        if let Some(frame) = frame_of(&entry.what) {
-            list_frame(&mut self.begun, frame)?;
-        }
         if let Some(_) = faults_of(&entry.what) {
             list_maker(&mut self.faults, entry.by)?;
         }
+        if let Some(frame) = begun {
+            self.begun.insert(frame)?;
+        }
         Ok(())
+    }
+
+    /// Lists no more what the entry would have begun or told of.
+    pub fn release(&mut self, begun: Option<u32>, entry: &Entry)
+        ensures { (journal : List Entry) → Awaits journal begun entry.now self.old →
+            IsNew journal begun → Recalls journal self.new }
+    {
+        if let Some(frame) = begun {
+            self.begun.remove(&frame);
+        }
+        if let Some(_) = faults_of(&entry.what) {
+            unlist_maker(&mut self.faults, entry.by);
+        }
     }
 
     /// Tells what the entry says, behind the journal's others.
     pub fn tell(&mut self, entry: &Entry)
         requires { HasRoomFor entry.now self.old }
-        ensures { (journal : List Entry) → Recalls journal self.old →
+        ensures { (journal : List Entry) (begun : Option ℕ) →
+            Awaits journal begun entry.now self.old → Begins journal begun entry.now.what →
             Recalls (journal ++ entry.now ∷ []) self.new }
     {
-        if let Some(frame) = frame_of(&entry.what) {
-            relist(&mut self.begun, frame, true);
-        }
         if let Some(after) = faults_of(&entry.what) {
             relist(&mut self.faults, entry.by, after);
         }

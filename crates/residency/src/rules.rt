@@ -3,7 +3,8 @@ ghost use Rattle.residency.specs.Agreement.{Agrees};
 ghost use Rattle.residency.specs.Frame.{Frame};
 ghost use Rattle.residency.specs.declared.entries.Entry.{Entry};
 ghost use Rattle.residency.specs.Recalled.{Recalls};
-ghost use Rattle.residency.specs.Leaf.{Ranks};
+ghost use Rattle.residency.specs.Parking.{Ranks};
+ghost use Rattle.residency.specs.Offer.{AreOffered};
 ghost use Rattle.residency.specs.Shown.{shown};
 ghost use Rattle.residency.specs.Rules.{rose, is_wrong, allows};
 ghost use Rattle.residency.specs.Next.{is_take, is_full};
@@ -106,7 +107,9 @@ fn allows_take(
     victim: Option<u32>,
 ) -> bool
     ensures { (entries : ℕ) (frames : List Frame) → Agrees entries frames account.now.standing →
-        Ranks layout.now (shown account.now.standing frames) account.now.leaves →
+        Ranks layout.now frames account.now.standing account.now.leaves →
+        AreOffered layout.now (shown account.now.standing frames) account.now.standing.wants.queue
+        account.now.offers →
         result ≡ allows layout.now (shown account.now.standing frames) [] by (Take frame page victim) }
 {
     if account.standing.stopped {
@@ -124,7 +127,9 @@ fn allows_take(
 /// Whether a Full is allowed.
 fn allows_full(layout: &Layout, account: &Account, by: u32, frame: u32) -> bool
     ensures { (entries : ℕ) (frames : List Frame) → Agrees entries frames account.now.standing →
-        Ranks layout.now (shown account.now.standing frames) account.now.leaves →
+        Ranks layout.now frames account.now.standing account.now.leaves →
+        AreOffered layout.now (shown account.now.standing frames) account.now.standing.wants.queue
+        account.now.offers →
         result ≡ allows layout.now (shown account.now.standing frames) [] by (Full frame) }
 {
     if account.standing.stopped {
@@ -140,7 +145,9 @@ fn allows_full(layout: &Layout, account: &Account, by: u32, frame: u32) -> bool
 pub fn allows(layout: &Layout, account: &Account, entry: &Entry) -> bool
     ensures { (journal : List Entry) (entries : ℕ) (frames : List Frame) →
         Recalls journal account.now.recall → Agrees entries frames account.now.standing →
-        Ranks layout.now (shown account.now.standing frames) account.now.leaves →
+        Ranks layout.now frames account.now.standing account.now.leaves →
+        AreOffered layout.now (shown account.now.standing frames) account.now.standing.wants.queue
+        account.now.offers →
         result ≡ allows layout.now (shown account.now.standing frames) journal entry.now.by entry.now.what }
 {
     let standing = &account.standing;

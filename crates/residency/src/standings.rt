@@ -13,7 +13,7 @@ use crate::Layout;
 use crate::arrays::{count_at, zeros};
 use crate::frames::Frames;
 use crate::places::Places;
-use crate::wants::Want;
+use crate::wants::Wants;
 use geom_core::Memory;
 use std::alloc::Global;
 
@@ -26,8 +26,8 @@ pub struct Standing {
     pub since: Vec<u64>,
     /// What the live frames hold.
     pub frames: Frames,
-    /// What frames want, the oldest want first.
-    pub wants: Vec<Want>,
+    /// What frames want.
+    pub wants: Wants,
     /// By page: how many entries there were when one last named it, that one with them; 0 for none.
     pub named: Vec<u64>,
     /// Whether a Stop stands.
@@ -37,7 +37,7 @@ pub struct Standing {
 }
 
 /// Whether a page that came at this count of entries was there at the moment.
-fn covers(moment: Option<u64>, since: u64) -> bool
+pub fn covers(moment: Option<u64>, since: u64) -> bool
     ensures { result ≡ covers moment since }
 {
     match moment {
@@ -56,7 +56,7 @@ impl Standing {
             places: Places::opening(alloc, layout)?,
             since: zeros(alloc, layout.pages)?,
             frames: Frames::opening(alloc, layout.pages)?,
-            wants: Vec::new(alloc),
+            wants: Wants::opening(alloc),
             named: zeros(alloc, layout.pages)?,
             stopped: false,
             entries: 0,

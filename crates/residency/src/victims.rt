@@ -1,20 +1,22 @@
 ghost use Rattle.std.specs.Prelude.{◌≡◌, [], List, ℕ};
 ghost use Rattle.residency.specs.Agreement.{Agrees};
 ghost use Rattle.residency.specs.Frame.{Frame};
-ghost use Rattle.residency.specs.Leaf.{Ranks, fits, rank};
+ghost use Rattle.residency.specs.Leaf.{fits, rank};
+ghost use Rattle.residency.specs.Parking.{Ranks};
 ghost use Rattle.residency.specs.Shown.{shown};
 ghost use Rattle.residency.specs.Victim.{named_of, is_evictable, victim_for};
 
 use crate::Layout;
 use crate::accounts::Account;
 use crate::pages::is_upper;
+use crate::releases::after;
 use crate::standings::Standing;
 use std::cmp::Reverse;
 
 /// Whether the candidate may be evicted for the page.
 fn is_evictable(layout: &Layout, account: &Account, page: u32, candidate: u32) -> bool
     ensures { (entries : ℕ) (frames : List Frame) → Agrees entries frames account.now.standing →
-        Ranks layout.now (shown account.now.standing frames) account.now.leaves →
+        Ranks layout.now frames account.now.standing account.now.leaves →
         result ≡ is_evictable layout.now (shown account.now.standing frames) page candidate }
 {
     let standing = &account.standing;
@@ -40,20 +42,22 @@ fn named(standing: &Standing, page: u32) -> u64
 /// Whether the candidate was last named at this count of entries, and may be evicted for the page.
 fn fits(layout: &Layout, account: &Account, page: u32, count: u64, candidate: u32) -> bool
     ensures { (entries : ℕ) (frames : List Frame) → Agrees entries frames account.now.standing →
-        Ranks layout.now (shown account.now.standing frames) account.now.leaves →
+        Ranks layout.now frames account.now.standing account.now.leaves →
         result ≡ fits layout.now (shown account.now.standing frames) page (rank count candidate) }
 {
     named(&account.standing, candidate) == count && is_evictable(layout, account, page, candidate)
 }
 
 /// The victim for the page: of the evictable pages the one named least recently, of equals the one of
-/// greatest number.
+/// greatest number. A page that a moment covers was installed by then, and each is named when it is
+/// installed, so those named by the greatest moment may be left out.
 pub fn victim_for(layout: &Layout, account: &Account, page: u32) -> Option<u32>
     ensures { (entries : ℕ) (frames : List Frame) → Agrees entries frames account.now.standing →
-        Ranks layout.now (shown account.now.standing frames) account.now.leaves →
+        Ranks layout.now frames account.now.standing account.now.leaves →
         result ≡ victim_for layout.now (shown account.now.standing frames) page }
 {
-    for place in account.leaves.order.iter() {
+    let start = after(account.standing.frames.last_moment());
+    for place in account.leaves.order.range((start, Reverse(u32::MAX))..) {
         let (count, Reverse(candidate)) = *place;
         if fits(layout, account, page, count, candidate) {
             return Some(candidate);

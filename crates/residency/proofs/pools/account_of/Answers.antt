@@ -1,6 +1,6 @@
 use Rattle.std.proofs.Common.{◌≡◌, ◌∙◌, ◌∷◌, ◌++◌, ◌+◌, ◌<◌, [], sym, ap, arith, take, drop, length, length-take, add-one, drop-cons, suc, true}
 use Rattle.std.proofs.lemmas.List.{take_more}
-use Rattle.residency.proofs.Kept.{Ranks-shown}
+use Rattle.residency.proofs.Kept.{AreOffered-shown}
 use Rattle.residency.proofs.LegalJournals.{entries-state_of, IsLegal-push, refused-here, allowed-here, told-place}
 use Rattle.residency.specs.Rules.{is_allowed, first_refused_after}
 use Rattle.residency.specs.State.{State, state_of}
@@ -20,7 +20,7 @@ returns-then-not-allows-clause-illegal c = λ place told.
     let before = take i entries in
     let lt : i < length entries = c.loop-place-test.true in
     let keeps = c.loop-place.invariant.keeps in
-    let tested : c.allows.result ≡ is_allowed layout before e = rw keeps.stands.shows at (c.allows.ensures before (length before) (state_of layout before).frames keeps.recalls keeps.stands.agrees (Ranks-shown layout before c.loop-place.account keeps)) in
+    let tested : c.allows.result ≡ is_allowed layout before e = rw keeps.stands.shows at (c.allows.ensures before (length before) (state_of layout before).frames keeps.recalls keeps.stands.agrees keeps.ranks (AreOffered-shown layout before c.loop-place.account keeps)) in
     let rest : drop i entries ≡ e ∷ drop (i + 1) entries = rw add-one (drop-cons entries i e lt ∙ ap (λ x. x ∷ drop (suc i) entries) (sym c.index-entries-place.is)) in
     let refused = sym c.loop-place.invariant.allowed ∙ (ap (first_refused_after layout before) rest ∙ refused-here layout before (drop (i + 1) entries) e (sym tested ∙ c.if-not-allows.true)) in
     told-place layout entries i place (length before) refused (omega (arith, length-take i entries, lt)) told
@@ -35,7 +35,7 @@ loop-place-preserved c =
     let lt : i < length entries = c.loop-place-test.true in
     let sofar = c.loop-place.invariant in
     let keeps = sofar.keeps in
-    let tested : c.allows.result ≡ is_allowed layout before e = rw keeps.stands.shows at (c.allows.ensures before (length before) (state_of layout before).frames keeps.recalls keeps.stands.agrees (Ranks-shown layout before c.loop-place.account keeps)) in
+    let tested : c.allows.result ≡ is_allowed layout before e = rw keeps.stands.shows at (c.allows.ensures before (length before) (state_of layout before).frames keeps.recalls keeps.stands.agrees keeps.ranks (AreOffered-shown layout before c.loop-place.account keeps)) in
     let allowed : is_allowed layout before e ≡ true = sym tested ∙ c.if-not-allows.false in
     let rest : drop i entries ≡ e ∷ drop (i + 1) entries = rw add-one (drop-cons entries i e lt ∙ ap (λ x. x ∷ drop (suc i) entries) (sym c.index-entries-place.is)) in
     let more : take (i + 1) entries ≡ before ++ e ∷ [] = take_more entries i e lt ∙ ap (λ x. before ++ x ∷ []) (sym c.index-entries-place.is) in

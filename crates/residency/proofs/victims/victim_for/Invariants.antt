@@ -1,13 +1,18 @@
 use Rattle.std.proofs.Common.{◌≡◌, ℕ, List}
+use Rattle.std.specs.BTreeSet.{keys_between}
 use Rattle.std.specs.List.{find}
+use Rattle.std.specs.declared.ops.Bound.TheVariants.{Included, Unbounded}
 use Rattle.residency.specs.Agreement.{Agrees}
 use Rattle.residency.specs.Frame.{Frame}
-use Rattle.residency.specs.Leaf.{Ranks, fits}
+use Rattle.residency.specs.Leaf.{fits, rank_cmp}
+use Rattle.residency.specs.Parking.{Ranks}
 use Rattle.residency.specs.Shown.{shown}
+use Rattle.residency.proofs.Leafing.{start_at}
 use Rattle.residency.proofs.victims.victim_for.Given as goal
 
--- the first that fits of the leaves left is the first of all
+-- the first that fits of the places left is the first of all
 abbrev pub invariant-loop-place : goal.invariant-loop-place
 invariant-loop-place l =
-    (entries : ℕ) (frames : List Frame) → Agrees entries frames l.account.standing → Ranks l.layout (shown l.account.standing frames) l.account.leaves
-    → find (fits l.layout (shown l.account.standing frames) l.page) l.place-iterator ≡ find (fits l.layout (shown l.account.standing frames) l.page) l.account.leaves.order.keys
+    (entries : ℕ) (frames : List Frame) → Agrees entries frames l.account.standing → Ranks l.layout frames l.account.standing l.account.leaves
+    → find (fits l.layout (shown l.account.standing frames) l.page) l.place-iterator
+    ≡ find (fits l.layout (shown l.account.standing frames) l.page) (keys_between rank_cmp (Included (start_at l.start)) Unbounded l.account.leaves.order)

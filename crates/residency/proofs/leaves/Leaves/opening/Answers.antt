@@ -1,6 +1,5 @@
 use Rattle.std.proofs.Common.{◌≡◌, ◌+◌, arith, nat_lt}
 use Rattle.residency.proofs.Stood.{CountsLowers-opening, Begins-root, CountsLowers-same, held-opening}
-use Rattle.residency.proofs.Leafing.{IsListed-opening}
 use Rattle.residency.proofs.leaves.Leaves.opening.Goals as goal
 
 pub loop-root-init : goal.loop-root-init
@@ -16,5 +15,4 @@ returns c = record {
   lowers = λ bounds.
       let end : c.loop-root.root ≡ c.args.layout.now.roots = omega (arith, bounds.counts.roots_are_pages) in
       CountsLowers-same c.args.layout.now _ _ c.loop-root.leaves.lowers.items (λ q below. held-opening c.args.layout.now q c.loop-root.root end below) (c.loop-root.invariant bounds);
-  listed = λ bounds. IsListed-opening c.args.layout.now c.loop-root.leaves.order;
 }

@@ -1,6 +1,6 @@
 use Rattle.std.proofs.Common.{◌≡◌, true, ap, sym, ◌∙◌, arith, length, rules}
 use Rattle.std.proofs.lemmas.Grind.{common_steps}
-use Rattle.residency.proofs.Kept.{Ranks-shown}
+use Rattle.residency.proofs.Kept.{AreOffered-shown}
 use Rattle.residency.proofs.LegalJournals.{entries-state_of, IsLegal-push}
 use Rattle.residency.specs.Rules.{is_allowed}
 use Rattle.residency.specs.State.{State, state_of}
@@ -19,7 +19,7 @@ invariant_of-self-2 c =
     let e = c.args.entry in
     let keeps = c.self.invariant.keeps in
     let items = rw c.in_ok-reserve_one.ensures.items at c.add.ensures in
-    let tested = rw keeps.stands.shows at (c.allows.ensures journal (length journal) (state_of layout journal).frames keeps.recalls keeps.stands.agrees (Ranks-shown layout journal was.account keeps)) in
+    let tested = rw keeps.stands.shows at (c.allows.ensures journal (length journal) (state_of layout journal).frames keeps.recalls keeps.stands.agrees keeps.ranks (AreOffered-shown layout journal was.account keeps)) in
     let allowed : is_allowed layout journal e ≡ true = sym tested ∙ c.if-not-allows.false in
     record {
       bounded = c.self.invariant.bounded;
@@ -33,7 +33,7 @@ returns-then-not-allows-clause-illegal c =
     let layout = was.layout in
     let journal = was.journal.items in
     let keeps = c.self.invariant.keeps in
-    let tested = rw keeps.stands.shows at (c.allows.ensures journal (length journal) (state_of layout journal).frames keeps.recalls keeps.stands.agrees (Ranks-shown layout journal was.account keeps)) in
+    let tested = rw keeps.stands.shows at (c.allows.ensures journal (length journal) (state_of layout journal).frames keeps.recalls keeps.stands.agrees keeps.ranks (AreOffered-shown layout journal was.account keeps)) in
     first_of (search rules, grind (arith, common_steps))
 
 pub returns-in_err-reserve_one-clause-illegal : goal.returns-in_err-reserve_one-clause-illegal
@@ -42,7 +42,7 @@ returns-in_err-reserve_one-clause-illegal c =
     let layout = was.layout in
     let journal = was.journal.items in
     let keeps = c.self.invariant.keeps in
-    let tested = rw keeps.stands.shows at (c.allows.ensures journal (length journal) (state_of layout journal).frames keeps.recalls keeps.stands.agrees (Ranks-shown layout journal was.account keeps)) in
+    let tested = rw keeps.stands.shows at (c.allows.ensures journal (length journal) (state_of layout journal).frames keeps.recalls keeps.stands.agrees keeps.ranks (AreOffered-shown layout journal was.account keeps)) in
     first_of (search rules, grind (arith, common_steps))
 
 pub returns-in_err-enter-clause-illegal : goal.returns-in_err-enter-clause-illegal
@@ -51,7 +51,7 @@ returns-in_err-enter-clause-illegal c =
     let layout = was.layout in
     let journal = was.journal.items in
     let keeps = c.self.invariant.keeps in
-    let tested = rw keeps.stands.shows at (c.allows.ensures journal (length journal) (state_of layout journal).frames keeps.recalls keeps.stands.agrees (Ranks-shown layout journal was.account keeps)) in
+    let tested = rw keeps.stands.shows at (c.allows.ensures journal (length journal) (state_of layout journal).frames keeps.recalls keeps.stands.agrees keeps.ranks (AreOffered-shown layout journal was.account keeps)) in
     first_of (search rules, grind (arith, common_steps))
 
 pub returns-clause-illegal : goal.returns-clause-illegal
@@ -60,7 +60,7 @@ returns-clause-illegal c =
     let layout = was.layout in
     let journal = was.journal.items in
     let keeps = c.self.invariant.keeps in
-    let tested = rw keeps.stands.shows at (c.allows.ensures journal (length journal) (state_of layout journal).frames keeps.recalls keeps.stands.agrees (Ranks-shown layout journal was.account keeps)) in
+    let tested = rw keeps.stands.shows at (c.allows.ensures journal (length journal) (state_of layout journal).frames keeps.recalls keeps.stands.agrees keeps.ranks (AreOffered-shown layout journal was.account keeps)) in
     first_of (search rules, grind (arith, common_steps))
 
 pub invariant_of-self-in_err-enter : goal.invariant_of-self-in_err-enter
@@ -69,7 +69,7 @@ invariant_of-self-in_err-enter c =
     let layout = was.layout in
     let journal = was.journal.items in
     let keeps = c.self.invariant.keeps in
-    let tested = rw keeps.stands.shows at (c.allows.ensures journal (length journal) (state_of layout journal).frames keeps.recalls keeps.stands.agrees (Ranks-shown layout journal was.account keeps)) in
+    let tested = rw keeps.stands.shows at (c.allows.ensures journal (length journal) (state_of layout journal).frames keeps.recalls keeps.stands.agrees keeps.ranks (AreOffered-shown layout journal was.account keeps)) in
     let allowed : is_allowed layout journal c.args.entry ≡ true = sym tested ∙ c.if-not-allows.false in
     let items = c.in_ok-reserve_one.ensures.items in
     record {

@@ -6,6 +6,7 @@ use Rattle.residency.specs.declared.frames.Hold.{Hold}
 use Rattle.residency.specs.Frame.{Frame}
 use Rattle.residency.specs.State.{name_at, marked}
 use Rattle.residency.proofs.Agreed.{Agrees-put, Agrees-same, IsHold-named, later, named-resident, no-moment, name_at-len, shows-with, on_err}
+use Rattle.residency.proofs.Queued.{IsQueued-later, IsOwned-put, IsOwned-same}
 use Rattle.residency.proofs.standings.Standing.narrow.Goals as goal
 
 pub returns-in_err-put-clause-err : goal.returns-in_err-put-clause-err
@@ -13,7 +14,8 @@ returns-in_err-put-clause-err c = λ frames agrees.
     let x = c.args.self.now in
     on_err c.from_residual-in_err-put.result _ (record {
       shows = refl;
-      agrees = Agrees-same x.entries x.entries frames x _ agrees refl refl (λ n. ap (λ es. lookup (is_at (nat_cmp n)) es) c.in_err-put.ensures.err) (c.put.ensures.indexed agrees.indexed (λ m own. no-moment m None refl own)) c.put.ensures.counts c.in_err-put.ensures.err_moments (omega arith);
+      agrees = Agrees-same x.entries x.entries frames x _ agrees refl refl (λ n. ap (λ es. lookup (is_at (nat_cmp n)) es) c.in_err-put.ensures.err) (c.put.ensures.indexed agrees.indexed (λ m own. no-moment m None refl own)) c.put.ensures.counts c.in_err-put.ensures.err_moments (omega arith)
+          agrees.queued (IsOwned-same x.frames.holds c.put.new.self.holds x.wants (λ n. ap (λ es. lookup (is_at (nat_cmp n)) es) c.in_err-put.ensures.err) agrees.owned);
     })
 
 pub returns-clause-ok : goal.returns-clause-ok
@@ -30,5 +32,6 @@ returns-clause-ok c = λ frames agrees all.
       agrees = Agrees-put x.entries _ frames x _ f w agrees refl refl c.in_ok-put.ensures.ok.0 (c.put.ensures.indexed agrees.indexed (λ m own. no-moment m None refl own)) c.put.ensures.counts
           (IsHold-named resident x.since.items c.args.frame c.args.by pages w all refl refl c.in_ok-set_of.ensures)
           (λ page has. named-resident resident pages _ page all (c.in_ok-set_of.ensures page) has)
-          (λ m some. later x.entries frames x m agrees (c.in_ok-put.ensures.moments m some)) (omega arith);
+          (λ m some. later x.entries frames x m agrees (c.in_ok-put.ensures.moments m some)) (omega arith)
+          (IsQueued-later x.entries (x.entries + 1) x.wants (omega arith) agrees.queued) (IsOwned-put x.frames.holds c.put.new.self.holds c.args.frame w x.wants c.in_ok-put.ensures.ok.0 agrees.owned);
     }

@@ -1,0 +1,10 @@
+use Rattle.std.proofs.Common.{ℕ, List}
+use Rattle.residency.specs.Agreement.{Agrees}
+use Rattle.residency.specs.Frame.{Frame}
+use Rattle.residency.specs.Parking.{Ranks}
+use Rattle.residency.proofs.leaves.Leaves.tidy_uppers.Given as goal
+
+-- what is kept stays right
+abbrev pub invariant-loop-upper : goal.invariant-loop-upper
+invariant-loop-upper l =
+    (entries : ℕ) (frames : List Frame) → Agrees entries frames l.standing → Ranks l.layout frames l.standing l.fn.self → Ranks l.layout frames l.standing l.self

@@ -1,0 +1,11 @@
+use Rattle.std.proofs.Common.{ap}
+use Rattle.residency.specs.Next.{busy_with}
+use Rattle.residency.proofs.nexts.next_without.Goals as goal
+
+pub returns-in-Some-first_loading : goal.returns-in-Some-first_loading
+returns-in-Some-first_loading c = λ layout entries frames agrees offered.
+    rw c.in-Some.is (ap busy_with (c.in-Some-first_loading.ensures layout entries frames agrees offered))
+
+pub returns-in-None : goal.returns-in-None
+returns-in-None c = λ layout entries frames agrees offered.
+    rw c.in-Some.is (ap busy_with (c.in-None.ensures layout entries frames agrees offered))
