@@ -56,7 +56,7 @@ compared-less a b h =
     ] refl)
     (cases_lt a b)
 
-compared-itself : (a : ℕ) → nat_cmp a a ≡ Equal
+pub compared-itself : (a : ℕ) → nat_cmp a a ≡ Equal
 compared-itself a =
     let no : nat_lt a a ≡ false = grind (arith, nat_tests) in
     let yes : (a == a) ≡ true = grind (arith, nat_tests) in

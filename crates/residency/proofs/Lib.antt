@@ -8,6 +8,7 @@ pub mod Cuts
 pub mod Earliest
 pub mod Examples
 mod ExamplesText
+pub mod Falling
 pub mod FittingUppers
 pub mod Flags
 pub mod Followed

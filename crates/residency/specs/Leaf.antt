@@ -52,7 +52,3 @@ is_leaf layout s page =
 -- whether the place is of a page that may be evicted for this one, and that was last named then
 abbrev pub fits : Layout → State → ℕ → ℕ × Reverse ℕ → Bool
 fits layout s page place = (named_of s place.1.0 == place.0) && is_evictable layout s page place.1.0
-
--- the count is that of entries at which the page was last named
-abbrev pub IsPlace : List ℕ → ℕ × ℕ → Type 0
-IsPlace named place = place.0 ≡ slice_index_or named place.1 0

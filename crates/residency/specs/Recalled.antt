@@ -1,8 +1,10 @@
 -- What is kept of a journal's frames and makers.
 use Rattle.std.specs.Prelude.{◌≡◌, ◌==◌, ◌||◌, ℕ, Bool, true, false, List, Option, None, Some, IsSome, unwrap_or, if◌then◌else◌}
 use Rattle.std.specs.BTreeMap.{get}
-use Rattle.std.specs.BTreeSet.{contains}
+use Rattle.std.specs.BTreeSet.{BTreeSet, contains}
 use Rattle.std.specs.Ordering.{nat_cmp}
+use Rattle.std.specs.declared.cmp.Ordering.{Ordering}
+use Rattle.std.specs.declared.cmp.Reverse.{Reverse}
 use Rattle.residency.specs.declared.entries.Entry.{Entry}
 use Rattle.residency.specs.declared.entries.What.{What}
 use Rattle.residency.specs.declared.entries.What.TheVariants.{Pin, Fail}
@@ -25,16 +27,27 @@ abbrev pub faults_of : What → Option ℕ
 faults_of (Fail page before after) = Some after
 faults_of _ = None
 
+-- the greatest number first
+abbrev pub falling_cmp : Reverse ℕ → Reverse ℕ → Ordering
+falling_cmp x y = nat_cmp y.0 x.0
+
+abbrev pub falling : ℕ → Reverse ℕ
+falling frame = record { 0 = frame }
+
+-- whether the frame is listed
+abbrev pub is_listed : BTreeSet (Reverse ℕ) → ℕ → Bool
+is_listed begun frame = contains falling_cmp begun (falling frame)
+
 -- what is listed is what the journal says
 pub record Recalls (journal : List Entry) (recall : Recall) : Type 0 where
   -- whether the frame has an entry
-  pub begun : (frame : ℕ) → contains nat_cmp recall.begun frame ≡ has_entry frame journal
+  pub begun : (frame : ℕ) → is_listed recall.begun frame ≡ has_entry frame journal
   -- by maker: the count of faults after its last Fail
   pub faults : (by : ℕ) → unwrap_or (get nat_cmp recall.faults by) 0 ≡ last_after by journal
 
 -- the same, but that the frame that the entry begins is listed, and so is the maker of a Fail
 pub record Awaits (journal : List Entry) (begun : Option ℕ) (entry : Entry) (recall : Recall) : Type 0 where
-  pub begun_too : (frame : ℕ) → contains nat_cmp recall.begun frame ≡ (has_entry frame journal || is_frame begun frame)
+  pub begun_too : (frame : ℕ) → is_listed recall.begun frame ≡ (has_entry frame journal || is_frame begun frame)
   pub faults : (by : ℕ) → unwrap_or (get nat_cmp recall.faults by) 0 ≡ last_after by journal
 
 -- the maker is listed where the entry is a Fail

@@ -117,9 +117,6 @@ impl Account {
             is_allowed layout.now journal entry.now ≡ true →
             OnErr result (Keeps layout.now journal self.new) }
     {
-        let places = self
-            .leaves
-            .places_left(alloc, layout, &self.standing, &entry.what)?;
         let tickets = self
             .offers
             .tickets_touched(alloc, &self.standing.wants, &entry.what)?;
@@ -135,8 +132,7 @@ impl Account {
         }
         self.offers
             .prune(layout, &self.standing, &entry.what, &tickets);
-        self.leaves
-            .prune(layout, &self.standing, &entry.what, &places);
+        self.leaves.prune(layout, &self.standing, &entry.what);
         self.recall.tell(entry);
         Ok(())
     }

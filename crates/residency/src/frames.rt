@@ -39,7 +39,11 @@ pub fn set_of(alloc: Global, pages: &[u32]) -> Result<BTreeSet<u32>, AllocError>
     ensures { IfOk result (λ named. (page : ℕ) →
         set.contains nat_cmp named page ≡ list_any (nat_eq page) pages.now) }
 {
-    pages.iter().copied().collect(alloc)
+    let mut named = BTreeSet::new(alloc);
+    for page in pages {
+        named.insert(*page)?;
+    }
+    Ok(named)
 }
 
 /// Counts one frame more at each of the pages.

@@ -1,7 +1,7 @@
-ghost use Rattle.std.specs.Prelude.{◌≡◌, ℕ, All, IfOk, List, slice_index_or, true};
+ghost use Rattle.std.specs.Prelude.{◌≡◌, ℕ, List, true};
 ghost use Rattle.residency.specs.Agreement.{Agrees};
 ghost use Rattle.residency.specs.Frame.{Frame};
-ghost use Rattle.residency.specs.Leaf.{IsPlace, Removes, is_leaf, ranks};
+ghost use Rattle.residency.specs.Leaf.{is_leaf, ranks};
 ghost use Rattle.residency.specs.Parking.{IsUnnamed, Ranks, names};
 ghost use Rattle.residency.specs.Shown.{shown};
 ghost use Rattle.residency.specs.State.{is_resident};
@@ -14,10 +14,9 @@ use crate::pages::uppers_of;
 use crate::releases::after;
 use crate::standings::Standing;
 use crate::{Layout, What};
-use geom_core::Memory;
-use std::alloc::Global;
 use std::cmp::Reverse;
 use std::collections::BTreeSet;
+use std::ops::Bound;
 
 /// Lets a page that was parked at this count stand in order no more, where that is its own place.
 fn unorder(order: &mut BTreeSet<(u64, Reverse<u32>)>, standing: &Standing, since: u64, page: u32)
@@ -54,68 +53,21 @@ fn unsweep(
     }
 }
 
-/// Lets the page be parked no more, as it was installed; answers whether it was.
-fn unparks(parked: &mut BTreeSet<(u64, Reverse<u32>)>, since: &[u64], page: u32) -> bool
-    ensures stood { result ≡ ranks parked.old (slice_index_or since.now page 0) page }
-    ensures removed { Removes parked.old parked.new (slice_index_or since.now page 0) page }
-{
-    // Mostly none is parked, and then no count is looked up.
-    if parked.is_empty() {
-        return false;
+/// The first place from this count on: the count and the page.
+fn first_from(order: &BTreeSet<(u64, Reverse<u32>)>, start: u64) -> Option<(u64, u32)> {
+    // Mostly there is no live frame with a moment, and then no place has to be looked for.
+    let first = if start == 0 {
+        order.first()
+    } else {
+        order.range((start, Reverse(u32::MAX))..).next()
+    };
+    match first {
+        Some((count, Reverse(page))) => Some((*count, *page)),
+        None => None,
     }
-    remove(parked, count_at(since, page), page)
 }
 
 impl Leaves {
-    /// Whether the page is a leaf that no frame pins by name. Others are to stand in no place.
-    fn is_loose(&self, layout: &Layout, standing: &Standing, page: u32) -> bool
-        ensures { (entries : ℕ) (frames : List Frame) → Agrees entries frames standing.now →
-            Ranks layout.now frames standing.now self.now →
-            is_leaf layout.now (shown standing.now frames) page ≡ true →
-            IsUnnamed (names standing.now.frames.holds) page → result ≡ true }
-    {
-        !standing.frames.is_named(page) && self.is_leaf(layout, standing, page)
-    }
-
-    /// Those of the pages that stand in a place, each with the count of entries at which it was last
-    /// named.
-    fn places_of(
-        &self,
-        alloc: Global,
-        layout: &Layout,
-        standing: &Standing,
-        pages: &[u32],
-    ) -> Result<Vec<(u64, u32)>, Memory>
-        ensures { IfOk result (λ places. All (IsPlace standing.now.named.items) places.items) }
-    {
-        let mut places = Vec::new(alloc);
-        for page in pages {
-            if self.is_loose(layout, standing, *page) {
-                places.push((count_at(&standing.named, *page), *page))?;
-            }
-        }
-        Ok(places)
-    }
-
-    /// The pages that the entry names again and that stand in a place, each with the count of entries
-    /// at which it was last named.
-    pub fn places_left(
-        &self,
-        alloc: Global,
-        layout: &Layout,
-        standing: &Standing,
-        what: &What,
-    ) -> Result<Vec<(u64, u32)>, Memory>
-        ensures { IfOk result (λ places. All (IsPlace standing.now.named.items) places.items) }
-    {
-        match what {
-            What::Settle { pages, .. } | What::Narrow { pages, .. } => {
-                self.places_of(alloc, layout, standing, pages.as_slice())
-            }
-            _ => Ok(Vec::new(alloc)),
-        }
-    }
-
     /// Lets a page that is no leaf, or that some frame pins by name, stand nowhere.
     fn clear(&mut self, standing: &Standing, page: u32)
         ensures { (layout : Layout) (entries : ℕ) (frames : List Frame) →
@@ -177,22 +129,6 @@ impl Leaves {
         }
     }
 
-    /// Lets a page that some frame pins by name now, and that was named at this count before, stand
-    /// nowhere.
-    fn unplace(&mut self, standing: &Standing, named: u64, page: u32)
-        ensures { (layout : Layout) (entries : ℕ) (frames : List Frame) →
-            Agrees entries frames standing.now → Ranks layout frames standing.now self.old →
-            Ranks layout frames standing.now self.new }
-    {
-        if !standing.frames.is_named(page) {
-            return;
-        }
-        if unparks(&mut self.parked, &standing.since, page) {
-            return;
-        }
-        remove(&mut self.order, named, page);
-    }
-
     /// Lets a page that was installed just now stand in order no more, where some frame pins it by name.
     fn unorder_named(&mut self, standing: &Standing, page: u32)
         ensures { (layout : Layout) (entries : ℕ) (frames : List Frame) →
@@ -204,16 +140,29 @@ impl Leaves {
         }
     }
 
-    /// Lets pages that frames pin by name now stand nowhere; each is told with the count of entries at
-    /// which it was named before.
-    fn leave(&mut self, standing: &Standing, places: &[(u64, u32)])
+    /// Lets the page be parked no more, where some frame pins it by name.
+    fn unpark_page(&mut self, standing: &Standing, page: u32)
         ensures { (layout : Layout) (entries : ℕ) (frames : List Frame) →
             Agrees entries frames standing.now → Ranks layout frames standing.now self.old →
             Ranks layout frames standing.now self.new }
     {
-        for place in places {
-            let (named, page) = *place;
-            self.unplace(standing, named, page);
+        if standing.frames.is_named(page) {
+            remove(&mut self.parked, count_at(&standing.since, page), page);
+        }
+    }
+
+    /// Lets those of the pages be parked no more that some frame pins by name.
+    fn unpark_named(&mut self, standing: &Standing, pages: &[u32])
+        ensures { (layout : Layout) (entries : ℕ) (frames : List Frame) →
+            Agrees entries frames standing.now → Ranks layout frames standing.now self.old →
+            Ranks layout frames standing.now self.new }
+    {
+        // Mostly none is parked, and then nothing is looked up.
+        if self.parked.is_empty() {
+            return;
+        }
+        for page in pages {
+            self.unpark_page(standing, *page);
         }
     }
 
@@ -235,30 +184,115 @@ impl Leaves {
         }
     }
 
-    /// Lets pages stand in no place but their own after the entry; those that it named again are told
-    /// with the count of entries at which they were named before.
-    pub fn prune(
+    /// Lets the page stand in order no more as one that was named at this count, unless it was; answers
+    /// whether it wasn't.
+    fn forget(&mut self, standing: &Standing, count: u64, page: u32) -> bool
+        ensures { (layout : Layout) (entries : ℕ) (frames : List Frame) →
+            Agrees entries frames standing.now → Ranks layout frames standing.now self.old →
+            Ranks layout frames standing.now self.new }
+    {
+        if count_at(&standing.named, page) == count {
+            return false;
+        }
+        remove(&mut self.order, count, page);
+        true
+    }
+
+    /// Lets pages that were named again since stand in the first places no more, from this count on and
+    /// up to the first page that wasn't.
+    fn drop_first(&mut self, standing: &Standing, start: u64)
+        ensures { (layout : Layout) (entries : ℕ) (frames : List Frame) →
+            Agrees entries frames standing.now → Ranks layout frames standing.now self.old →
+            Ranks layout frames standing.now self.new }
+    {
+        for _ in 0..self.order.len() {
+            let Some((count, page)) = first_from(&self.order, start) else {
+                return;
+            };
+            if !self.forget(standing, count, page) {
+                return;
+            }
+        }
+    }
+
+    /// Lets pages that were named again since stand in no place from this count on.
+    fn drop_from(&mut self, standing: &Standing, start: u64)
+        ensures { (layout : Layout) (entries : ℕ) (frames : List Frame) →
+            Agrees entries frames standing.now → Ranks layout frames standing.now self.old →
+            Ranks layout frames standing.now self.new }
+    {
+        let mut from = Bound::Included((start, Reverse(u32::MAX)));
+        for _ in 0..self.order.len() {
+            let Some(place) = self.order.range((from, Bound::Unbounded)).next() else {
+                return;
+            };
+            let (count, Reverse(page)) = *place;
+            self.forget(standing, count, page);
+            from = Bound::Excluded((count, Reverse(page)));
+        }
+    }
+
+    /// Lets pages that were named again since stand in no place, where there are more than twice as many
+    /// places as pages.
+    fn drop_many(&mut self, layout: &Layout, standing: &Standing)
+        ensures { (entries : ℕ) (frames : List Frame) → Agrees entries frames standing.now →
+            Ranks layout.now frames standing.now self.old →
+            Ranks layout.now frames standing.now self.new }
+    {
+        if self.order.len() as u64 > 2 * u64::from(layout.pages) {
+            self.drop_from(standing, 0);
+        }
+    }
+
+    /// Lets these pages, which were named again, and those that no moment covers be parked no more, and
+    /// pages that were named again since stand in none of the first places.
+    fn prune_named(&mut self, layout: &Layout, standing: &Standing, pages: &[u32])
+        ensures { (entries : ℕ) (frames : List Frame) → Agrees entries frames standing.now →
+            Ranks layout.now frames standing.now self.old →
+            Ranks layout.now frames standing.now self.new }
+    {
+        self.unpark_named(standing, pages);
+        self.unpark(standing);
+        self.drop_first(standing, after(standing.frames.last_moment()));
+        self.drop_many(layout, standing);
+    }
+
+    /// Lets the victim, and the uppers of the page that is being loaded, stand in no place but their own,
+    /// and pages that were named again since in none of the first places.
+    fn prune_taken(
         &mut self,
         layout: &Layout,
         standing: &Standing,
-        what: &What,
-        places: &[(u64, u32)],
+        page: u32,
+        victim: Option<u32>,
     )
         ensures { (entries : ℕ) (frames : List Frame) → Agrees entries frames standing.now →
             Ranks layout.now frames standing.now self.old →
             Ranks layout.now frames standing.now self.new }
     {
+        self.tidy_uppers(layout, standing, page);
+        if let Some(victim) = victim {
+            self.tidy(layout, standing, victim);
+            self.drop_first(standing, after(standing.frames.last_moment()));
+        }
+    }
+
+    /// After the entry, lets pages stand in no place but their own. A place at which a page stood before
+    /// it was named again may stay until it is the first that a search looks at.
+    pub fn prune(&mut self, layout: &Layout, standing: &Standing, what: &What)
+        ensures { (entries : ℕ) (frames : List Frame) → Agrees entries frames standing.now →
+            Ranks layout.now frames standing.now self.old →
+            Ranks layout.now frames standing.now self.new }
+    {
         match what {
-            What::Settle { .. } | What::Narrow { .. } | What::Unpin { .. } => {
-                self.leave(standing, places);
-                self.unpark(standing);
+            What::Settle { pages, .. } | What::Narrow { pages, .. } => {
+                self.prune_named(layout, standing, pages.as_slice());
             }
+            What::Unpin { .. } => self.unpark(standing),
             What::Install { page, .. } => self.unorder_named(standing, *page),
-            What::Take { page, victim, .. } => {
-                self.tidy_uppers(layout, standing, *page);
-                if let Some(victim) = victim {
-                    self.tidy(layout, standing, *victim);
-                }
+            What::Take { page, victim, .. } => self.prune_taken(layout, standing, *page, *victim),
+            What::Full { .. } => {
+                self.drop_from(standing, after(standing.frames.last_moment()));
             }
             _ => {}
         }
@@ -275,17 +309,6 @@ impl Leaves {
         };
         for page in hold.pages.iter() {
             self.tidy(layout, standing, *page);
-        }
-    }
-
-    /// Lets the page stand in order no more as one that was named at this count, unless it was.
-    fn forget(&mut self, standing: &Standing, count: u64, page: u32)
-        ensures { (layout : Layout) (entries : ℕ) (frames : List Frame) →
-            Agrees entries frames standing.now → Ranks layout frames standing.now self.old →
-            Ranks layout frames standing.now self.new }
-    {
-        if count_at(&standing.named, page) != count {
-            remove(&mut self.order, count, page);
         }
     }
 

@@ -1,21 +1,23 @@
-ghost use Rattle.std.specs.Prelude.{◌≡◌, ◌++◌, ◌∷◌, [], List, ℕ, OnOk, OnErr, Option, None, Some, IsSome, unwrap_or, nat_eq, false};
+ghost use Rattle.std.specs.Prelude.{◌≡◌, ◌==◌, ◌&&◌, ◌||◌, not, ◌++◌, ◌∷◌, [], List, ℕ, OnOk, OnErr, Option, None, Some, IsSome, unwrap_or, nat_eq, false};
 ghost use Rattle.std.specs.BTreeMap.{get};
 ghost use Rattle.std.specs.BTreeSet as set;
 ghost use Rattle.std.specs.Ordering.{nat_cmp};
 ghost use Rattle.residency.specs.declared.entries.Entry.{Entry};
-ghost use Rattle.residency.specs.Recalled.{Awaits, Begins, HasRoomFor, IsNew, Recalls, faults_of};
+ghost use Rattle.residency.specs.Recalled.{Awaits, Begins, HasRoomFor, IsNew, Recalls, faults_of, is_listed};
 ghost use Rattle.residency.specs.Rules.{has_entry, last_after};
 
 use crate::{Entry, What};
 use geom_core::Memory;
 use std::alloc::{AllocError, Global};
+use std::cmp::Reverse;
 use std::collections::{BTreeMap, BTreeSet};
 
 /// What is kept of a journal's frames and makers, so that no entry has to look back through it.
 #[derive(Debug, Drop)]
 pub struct Recall {
-    /// The frames that have an entry.
-    pub begun: BTreeSet<u32>,
+    /// The frames that have an entry, the greatest number first: mostly that is the newest, and the first of
+    /// a set is found soonest.
+    pub begun: BTreeSet<Reverse<u32>>,
     /// By maker: the count of faults after its last Fail. A maker that isn't listed has 0.
     pub faults: BTreeMap<u32, u64>,
 }
@@ -28,6 +30,23 @@ fn faults_of(what: &What) -> Option<u64>
         What::Fail { after, .. } => Some(*after),
         _ => None,
     }
+}
+
+/// Lists the frame.
+fn list_frame(begun: &mut BTreeSet<Reverse<u32>>, frame: u32) -> Result<(), AllocError>
+    ensures ok { OnOk result ((f : ℕ) →
+        is_listed begun.new f ≡ (is_listed begun.old f || (frame == f))) }
+    ensures err { OnErr result ((f : ℕ) → is_listed begun.new f ≡ is_listed begun.old f) }
+{
+    begun.insert(Reverse(frame))?;
+    Ok(())
+}
+
+/// Lists the frame no more.
+fn unlist_frame(begun: &mut BTreeSet<Reverse<u32>>, frame: u32)
+    ensures { (f : ℕ) → is_listed begun.new f ≡ (not (frame == f) && is_listed begun.old f) }
+{
+    begun.remove(&Reverse(frame));
 }
 
 /// Lists the maker, where it isn't listed, as one without a Fail.
@@ -79,7 +98,7 @@ impl Recall {
         ensures { (journal : List Entry) → Recalls journal self.now →
             result ≡ has_entry frame journal }
     {
-        self.begun.contains(&frame)
+        self.begun.contains(&Reverse(frame))
     }
 
     /// The count of faults after the maker's last Fail, 0 where it has none.
@@ -102,7 +121,7 @@ impl Recall {
             list_maker(&mut self.faults, entry.by)?;
         }
         if let Some(frame) = begun {
-            self.begun.insert(frame)?;
+            list_frame(&mut self.begun, frame)?;
         }
         Ok(())
     }
@@ -113,7 +132,7 @@ impl Recall {
             IsNew journal begun → Recalls journal self.new }
     {
         if let Some(frame) = begun {
-            self.begun.remove(&frame);
+            unlist_frame(&mut self.begun, frame);
         }
         if let Some(_) = faults_of(&entry.what) {
             unlist_maker(&mut self.faults, entry.by);

@@ -18,7 +18,7 @@ ghost use Rattle.residency.specs.State.{is_held};
 use crate::arrays::count_at;
 use crate::leaves::{Leaves, insert};
 use crate::pages::uppers_of;
-use crate::standings::{Standing, covers};
+use crate::standings::Standing;
 use crate::{Layout, What};
 use geom_core::Memory;
 use std::cmp::Reverse;
@@ -79,15 +79,24 @@ fn sweep(
     Ok(())
 }
 
+/// Whether the moment, if there is one, covers the page as it was installed last.
+fn is_covered(standing: &Standing, moment: Option<u64>, page: u32) -> bool
+    ensures { result ≡ covers moment (slice_index_or standing.now.since.items page 0) }
+{
+    match moment {
+        Some(moment) => count_at(&standing.since, page) <= moment,
+        None => false,
+    }
+}
+
 impl Leaves {
     /// Puts the page into its place: parked where the moment covers it, and else in order.
     fn put(&mut self, standing: &Standing, moment: Option<u64>, page: u32) -> Result<(), Memory>
         ensures grows { Grows self.old self.new }
         ensures ok { OnOk result (IsPut moment standing.now self.new page) }
     {
-        let since = count_at(&standing.since, page);
-        if covers(moment, since) {
-            return insert(&mut self.parked, since, page);
+        if is_covered(standing, moment, page) {
+            return insert(&mut self.parked, count_at(&standing.since, page), page);
         }
         insert(&mut self.order, count_at(&standing.named, page), page)
     }

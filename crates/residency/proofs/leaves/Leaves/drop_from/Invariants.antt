@@ -3,9 +3,9 @@ use Rattle.residency.specs.Agreement.{Agrees}
 use Rattle.residency.specs.declared.layouts.Layout.{Layout}
 use Rattle.residency.specs.Frame.{Frame}
 use Rattle.residency.specs.Parking.{Ranks}
-use Rattle.residency.proofs.leaves.Leaves.leave.Given as goal
+use Rattle.residency.proofs.leaves.Leaves.drop_from.Given as goal
 
 -- what is kept stays right
-abbrev pub invariant-loop-place : goal.invariant-loop-place
-invariant-loop-place l =
+abbrev pub invariant-loop : goal.invariant-loop
+invariant-loop l =
     (layout : Layout) (entries : ℕ) (frames : List Frame) → Agrees entries frames l.standing → Ranks layout frames l.standing l.fn.self → Ranks layout frames l.standing l.self

@@ -1,0 +1,11 @@
+use Rattle.std.proofs.Common.{ℕ, List}
+use Rattle.residency.specs.Agreement.{Agrees}
+use Rattle.residency.specs.declared.layouts.Layout.{Layout}
+use Rattle.residency.specs.Frame.{Frame}
+use Rattle.residency.specs.Parking.{Ranks}
+use Rattle.residency.proofs.leaves.Leaves.drop_first.Given as goal
+
+-- what is kept stays right
+abbrev pub invariant-loop : goal.invariant-loop
+invariant-loop l =
+    (layout : Layout) (entries : ℕ) (frames : List Frame) → Agrees entries frames l.standing → Ranks layout frames l.standing l.fn.self → Ranks layout frames l.standing l.self
