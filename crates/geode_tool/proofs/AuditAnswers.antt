@@ -2,13 +2,13 @@
 use Rattle.std.proofs.Common.{◌≡◌, ◌≤◌, ◌<◌, ◌^◌, ℕ, List, length, Option, Some, None, Result, Ok, Err, true, false, inl, inr, ap, sym, subst, refl, ◌∙◌, arith}
 use Rattle.std.specs.Prelude.{nat_le, IsErr, IfErr, IfSome}
 use Rattle.std.specs.Result.{IsErrAnd}
-use Rattle.residency.specs.Grammar.{journal_of}
+use Rattle.journal.specs.Grammar.{journal_of}
 use Rattle.residency.specs.Rules.{first_refused, IsLegal}
 use Rattle.residency.specs.History.{History}
-use Rattle.residency.specs.declared.entries.Entry.{Entry}
-use Rattle.residency.specs.declared.journals.Journal.{Journal}
-use Rattle.residency.specs.declared.journals.JournalFault.{JournalFault}
-use Rattle.residency.specs.declared.journals.JournalFault.TheVariants as journal
+use Rattle.journal.specs.declared.entries.Entry.{Entry}
+use Rattle.journal.specs.declared.journals.Journal.{Journal}
+use Rattle.journal.specs.declared.journals.JournalFault.{JournalFault}
+use Rattle.journal.specs.declared.journals.JournalFault.TheVariants as journal
 use Rattle.residency.specs.declared.pools.ReplayFault.{ReplayFault}
 use Rattle.residency.specs.declared.pools.ReplayFault.TheVariants as replay
 use Rattle.geode_tool.specs.declared.texts.TextFault.{TextFault}

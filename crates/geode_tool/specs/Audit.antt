@@ -2,9 +2,9 @@
 use Rattle.std.specs.Prelude.{◌≡◌, ◌^◌, nat_le, ℕ, List, [], ◌∷◌, ◌++◌, length, codes, Option, Some, None, IfSome, Result, Ok, Err, if◌then◌else◌}
 use Rattle.std.specs.Fmt.{decimal}
 use Rattle.span_io.specs.Faults.{Rose}
-use Rattle.residency.specs.Grammar.{journal_of}
+use Rattle.journal.specs.Grammar.{journal_of}
 use Rattle.residency.specs.Rules.{first_refused}
-use Rattle.residency.specs.declared.journals.Journal.{Journal}
+use Rattle.journal.specs.declared.journals.Journal.{Journal}
 use Rattle.geode_tool.specs.Texts.{IsText}
 use Rattle.geode_tool.specs.declared.faults.Done.{Done}
 use Rattle.geode_tool.specs.declared.faults.Done.TheVariants.{Audited}

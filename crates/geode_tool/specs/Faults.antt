@@ -1,8 +1,8 @@
 -- The faults of the tool that a fault of its parts becomes.
 use Rattle.obj_source.specs.declared.faults.ObjFault.{ObjFault}
 use Rattle.obj_source.specs.declared.faults.ObjFault.TheVariants as obj
-use Rattle.residency.specs.declared.journals.JournalFault.{JournalFault}
-use Rattle.residency.specs.declared.journals.JournalFault.TheVariants as journal
+use Rattle.journal.specs.declared.journals.JournalFault.{JournalFault}
+use Rattle.journal.specs.declared.journals.JournalFault.TheVariants as journal
 use Rattle.residency.specs.declared.pools.ReplayFault.{ReplayFault}
 use Rattle.residency.specs.declared.pools.ReplayFault.TheVariants as replay
 use Rattle.geode_tool.specs.declared.texts.TextFault.{TextFault}

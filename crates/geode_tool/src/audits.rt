@@ -12,7 +12,8 @@ use crate::faults::{Done, Fault};
 use crate::texts::read_at_most;
 use crate::writing::write_whole;
 use geom_core::Memory;
-use residency::{Journal, Pool, read_journal};
+use journal::{Journal, read_journal};
+use residency::Pool;
 use span_io::{Sink, Source};
 use std::alloc::Global;
 

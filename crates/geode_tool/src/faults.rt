@@ -4,7 +4,8 @@ ghost use Rattle.geode_tool.specs.Statuses.{status_of};
 use crate::texts::TextFault;
 use geom_core::Memory;
 use obj_source::{ObjFault, ObjWhy};
-use residency::{JournalFault, ReplayFault};
+use journal::JournalFault;
+use residency::ReplayFault;
 use thiserror::Error;
 
 /// What a command did.

@@ -2,10 +2,10 @@
 use Rattle.std.proofs.Common.{◌≡◌, ℕ, ◌==◌, ◌<◌, List, [], ◌∷◌, Bool, true, false, not, ◌&&◌, ⊎_elim, Option, Some, None, length, get_or, refl, arith}
 use Rattle.std.specs.List.{list_all}
 use Rattle.std.specs.Option.{IfSome, is_some}
-use Rattle.residency.specs.declared.entries.Entry.{Entry}
-use Rattle.residency.specs.declared.entries.What.TheVariants.{Settle, Ask, Narrow, Take}
-use Rattle.residency.specs.declared.layouts.Layout.{Layout}
-use Rattle.residency.specs.Layout.{ascends, all_below}
+use Rattle.journal.specs.declared.entries.Entry.{Entry}
+use Rattle.journal.specs.declared.entries.What.TheVariants.{Settle, Ask, Narrow, Take}
+use Rattle.journal.specs.declared.layouts.Layout.{Layout}
+use Rattle.journal.specs.Layout.{ascends, all_below}
 use Rattle.residency.specs.Next.{is_take, next_in}
 use Rattle.residency.specs.Rules.{allows, owns, pins, loads, is_page_list, all_resident, any_resident}
 use Rattle.residency.specs.Sound.{IsSound}

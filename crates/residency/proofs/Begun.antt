@@ -1,13 +1,13 @@
 -- Each live frame has an entry, and an entry that is allowed is of a live frame, or is a Pin.
 use Rattle.std.proofs.Common.{◌≡◌, ℕ, ◌==◌, List, [], ◌∷◌, Bool, true, false, not, cond, ◌&&◌, ◌||◌, ◌⊎◌, inl, inr, ⊎_elim, Some, None, map, fold, set, refl, sym, ap, ◌∙◌}
 use Rattle.std.specs.List.{list_all}
-use Rattle.residency.specs.declared.entries.Entry.{Entry}
-use Rattle.residency.specs.declared.entries.What.{What}
-use Rattle.residency.specs.declared.entries.What.TheVariants.{Pin, Settle, Ask, Narrow, Unpin, Take, Install, Fail, Spoil, Starve, Full, Stop}
-use Rattle.residency.specs.declared.layouts.Layout.{Layout}
+use Rattle.journal.specs.declared.entries.Entry.{Entry}
+use Rattle.journal.specs.declared.entries.What.{What}
+use Rattle.journal.specs.declared.entries.What.TheVariants.{Pin, Settle, Ask, Narrow, Unpin, Take, Install, Fail, Spoil, Starve, Full, Stop}
+use Rattle.journal.specs.declared.layouts.Layout.{Layout}
 use Rattle.residency.specs.declared.wants.Want.{Want}
 use Rattle.residency.specs.Frame.{Frame}
-use Rattle.residency.specs.Layout.{ascends}
+use Rattle.journal.specs.Layout.{ascends}
 use Rattle.residency.specs.Next.{is_take, is_full, next_in}
 use Rattle.residency.specs.Recalled.{Begins, IsNew, frame_begun, is_frame}
 use Rattle.residency.specs.Rules.{allows, owns, pins, is_page_list, all_resident, any_resident, is_entry_of, has_entry}

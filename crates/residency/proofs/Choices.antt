@@ -2,9 +2,9 @@
 use Rattle.std.proofs.Common.{◌≡◌, ℕ, ◌<◌, List, [], ◌∷◌, Bool, true, false, cond, nat_lt, ◌==◌, ◌⊎◌, inl, inr, ⊎_elim, Option, Some, None, filter, fold, refl}
 use Rattle.std.proofs.lemmas.Bool.Decides.{Decides-ltb}
 use Rattle.residency.specs.declared.wants.Want.{Want}
-use Rattle.residency.specs.declared.layouts.Layout.{Layout}
+use Rattle.journal.specs.declared.layouts.Layout.{Layout}
 use Rattle.residency.specs.declared.nexts.Next.TheVariants.{Take}
-use Rattle.residency.specs.Layout.{page_numbers}
+use Rattle.journal.specs.Layout.{page_numbers}
 use Rattle.residency.specs.Next.{is_want_for, can_take, is_takeable, first_takeable, first_loading, next_with, next_at, busy_with, next_without, next_of, next_in, same_victim, is_take}
 use Rattle.residency.specs.State.{State, held_count}
 use Rattle.residency.specs.Victim.{is_evictable, named_of, staler, victim_for}

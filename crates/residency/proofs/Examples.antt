@@ -2,10 +2,10 @@
 use Rattle.std.proofs.Common.{◌≡◌, ℕ, List, [], ◌∷◌, ◌++◌, Some, None, Option, refl}
 use Rattle.std.specs.Prelude.{replicate}
 use Rattle.geom_core.specs.declared.digests.Digest32.{Digest32}
-use Rattle.residency.specs.declared.entries.Entry.{Entry}
-use Rattle.residency.specs.declared.entries.What.{What}
-use Rattle.residency.specs.declared.entries.What.TheVariants.{Pin, Settle, Narrow, Unpin, Take, Install, Fail, Stop}
-use Rattle.residency.specs.declared.layouts.Layout.{Layout}
+use Rattle.journal.specs.declared.entries.Entry.{Entry}
+use Rattle.journal.specs.declared.entries.What.{What}
+use Rattle.journal.specs.declared.entries.What.TheVariants.{Pin, Settle, Narrow, Unpin, Take, Install, Fail, Stop}
+use Rattle.journal.specs.declared.layouts.Layout.{Layout}
 use Rattle.residency.specs.declared.nexts.Next.TheVariants as Next
 use Rattle.residency.specs.Next.{next_after}
 use Rattle.residency.specs.State.{residency}

@@ -2,15 +2,15 @@
 use Rattle.std.proofs.Common.{◌≡◌, ℕ, ◌+◌, List, [], ◌∷◌, ◌++◌, true, length, sym, ap, ◌∙◌, subst}
 use Rattle.residency.specs.Agreement.{Agrees, Stands}
 use Rattle.residency.specs.declared.accounts.Account.{Account}
-use Rattle.residency.specs.declared.entries.Entry.{Entry}
-use Rattle.residency.specs.declared.layouts.Layout.{Layout}
+use Rattle.journal.specs.declared.entries.Entry.{Entry}
+use Rattle.journal.specs.declared.layouts.Layout.{Layout}
 use Rattle.residency.specs.declared.leaves.Leaves.{Leaves}
 use Rattle.residency.specs.declared.offers.Offers.{Offers}
 use Rattle.residency.specs.declared.recalls.Recall.{Recall}
 use Rattle.residency.specs.declared.standings.Standing.{Standing}
 use Rattle.residency.specs.Frame.{Frame}
 use Rattle.residency.specs.Kept.{IsAt, Keeps}
-use Rattle.residency.specs.Layout.{InBounds}
+use Rattle.journal.specs.Layout.{InBounds}
 use Rattle.residency.specs.Leaf.{CountsLowers}
 use Rattle.residency.specs.Offer.{AreOffered}
 use Rattle.residency.specs.Parking.{IsReady, Moves, Ranks}

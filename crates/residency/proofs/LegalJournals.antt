@@ -1,8 +1,8 @@
 -- A journal with one entry more: its state, and that it is legal.
 use Rattle.std.proofs.Common.{◌≡◌, ℕ, ◌+◌, List, [], ◌∷◌, ◌++◌, Bool, true, false, Option, None, Some, length, refl, ap, ◌∙◌, Result, Err, arith, append_assoc, append-nil, fold}
 use Rattle.std.proofs.lemmas.List.Sums.{fold_push}
-use Rattle.residency.specs.declared.entries.Entry.{Entry}
-use Rattle.residency.specs.declared.layouts.Layout.{Layout}
+use Rattle.journal.specs.declared.entries.Entry.{Entry}
+use Rattle.journal.specs.declared.layouts.Layout.{Layout}
 use Rattle.residency.specs.Rules.{is_allowed, refused_or, first_refused_after, IsLegal}
 use Rattle.residency.specs.declared.pools.ReplayFault.{ReplayFault}
 use Rattle.residency.specs.declared.pools.ReplayFault.TheVariants.{Illegal}

@@ -1,7 +1,7 @@
 -- What a loader may do next, by what was found.
 use Rattle.std.proofs.Common.{◌≡◌, ℕ, ◌<◌, ◌≤◌, true, false, cond, nat_lt, Option, None, sym, ap, ◌∙◌, arith}
 use Rattle.std.proofs.lemmas.Bool.Decides.{Decides-ltb, nat_tests}
-use Rattle.residency.specs.declared.layouts.Layout.{Layout}
+use Rattle.journal.specs.declared.layouts.Layout.{Layout}
 use Rattle.residency.specs.declared.nexts.Next.TheVariants.{Take}
 use Rattle.residency.specs.Next.{next_at, next_with}
 use Rattle.residency.specs.State.{State, held_count}

@@ -7,17 +7,17 @@ use Rattle.std.specs.BTreeSet.{BTreeSet}
 use Rattle.std.specs.List.{list_any}
 use Rattle.std.proofs.lemmas.List.Folds.{list_any_more, list_any-append}
 use Rattle.std.proofs.lemmas.Map.Views.{any-filter_same}
-use Rattle.residency.specs.declared.entries.Entry.{Entry}
-use Rattle.residency.specs.declared.entries.What.{What}
-use Rattle.residency.specs.declared.entries.What.TheVariants.{Pin, Settle, Ask, Narrow, Unpin, Take, Install, Fail, Spoil, Starve, Full, Stop}
-use Rattle.residency.specs.declared.layouts.Layout.{Layout}
+use Rattle.journal.specs.declared.entries.Entry.{Entry}
+use Rattle.journal.specs.declared.entries.What.{What}
+use Rattle.journal.specs.declared.entries.What.TheVariants.{Pin, Settle, Ask, Narrow, Unpin, Take, Install, Fail, Spoil, Starve, Full, Stop}
+use Rattle.journal.specs.declared.layouts.Layout.{Layout}
 use Rattle.residency.specs.declared.offers.Offers.{Offers}
 use Rattle.residency.specs.declared.wants.Want.{Want}
 use Rattle.residency.specs.Next.{can_take}
 use Rattle.residency.specs.Offer.{has_ticket, IsWider, HasPages, HasPassing, IsOffered, AreOffered, is_ended, may_free, may_load, ListsTouched}
 use Rattle.residency.specs.Queue.{pair_cmp, want_at, is_among, is_one_of, pages_queued, QueuesFrom, QueuesPages, IsNarrower}
 use Rattle.residency.specs.State.{State, after, changed, is_loading, wants_after, wants_without}
-use Rattle.residency.specs.Layout.{is_upper}
+use Rattle.journal.specs.Layout.{is_upper}
 use Rattle.residency.specs.Lower.{HasLowers, has_pair}
 use Rattle.residency.proofs.Queued.{picked}
 use Rattle.residency.proofs.Renewed.{any-value}

@@ -8,18 +8,18 @@ use Rattle.std.proofs.lemmas.Bool.{cases_lt}
 use Rattle.std.proofs.lemmas.Bool.Decides.{nat_tests, Decides-eqb}
 use Rattle.std.proofs.lemmas.List.{get_or_past}
 use Rattle.residency.specs.Agreement.{Agrees}
-use Rattle.residency.specs.declared.entries.Entry.{Entry}
-use Rattle.residency.specs.declared.entries.Spoilt.{Spoilt}
-use Rattle.residency.specs.declared.entries.What.{What}
-use Rattle.residency.specs.declared.entries.What.TheVariants.{Pin, Settle, Ask, Narrow, Unpin, Take, Install, Fail, Spoil, Starve, Full, Stop}
+use Rattle.journal.specs.declared.entries.Entry.{Entry}
+use Rattle.journal.specs.declared.entries.Spoilt.{Spoilt}
+use Rattle.journal.specs.declared.entries.What.{What}
+use Rattle.journal.specs.declared.entries.What.TheVariants.{Pin, Settle, Ask, Narrow, Unpin, Take, Install, Fail, Spoil, Starve, Full, Stop}
 use Rattle.residency.specs.declared.frames.Hold.{Hold}
-use Rattle.residency.specs.declared.layouts.Layout.{Layout}
+use Rattle.journal.specs.declared.layouts.Layout.{Layout}
 use Rattle.residency.specs.declared.leaves.Leaves.{Leaves}
 use Rattle.residency.specs.declared.standings.Standing.{Standing}
 use Rattle.residency.specs.declared.wants.Want.{Want}
 use Rattle.residency.specs.Frame.{Frame}
 use Rattle.residency.specs.Holding.{covers, frame_at, pins_of}
-use Rattle.residency.specs.Layout.{InBounds, is_upper, page_numbers, uppers_of}
+use Rattle.journal.specs.Layout.{InBounds, is_upper, page_numbers, uppers_of}
 use Rattle.residency.specs.Leaf.{count_on, is_leaf, ranks}
 use Rattle.residency.specs.Parking.{Grows, HasPlace, IsBare, IsListed, IsNamedAlone, IsPlaced, IsPut, IsReady, IsUnnamed, LetsGo, Ranks, names, still_names}
 use Rattle.residency.specs.Rules.{allows, loads, rose, last_after, is_wrong}

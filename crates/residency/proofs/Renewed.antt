@@ -16,7 +16,7 @@ use Rattle.std.proofs.lemmas.Map.{lookup-none}
 use Rattle.residency.specs.declared.frames.Hold.{Hold}
 use Rattle.residency.specs.declared.wants.Want.{Want}
 use Rattle.residency.specs.declared.wants.Wants.{Wants}
-use Rattle.residency.specs.Layout.{ascends, ascends_from}
+use Rattle.journal.specs.Layout.{ascends, ascends_from}
 use Rattle.residency.specs.Queue.{pair_cmp, want_at, is_paged, is_among, is_one_of, IsQueued, IsOwned, ListsGone, ListsPage, waits_at, stays, tickets_at, want_of, PutsSome, PutsAll, Takes, Retires, IsAsBefore, QueuesPages, IsNarrower}
 use Rattle.residency.specs.State.{wants_of, wants_without, waits_for}
 use Rattle.residency.proofs.Counts.{is_at-eqb}

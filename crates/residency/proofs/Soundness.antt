@@ -5,13 +5,13 @@ use Rattle.std.specs.List.{count_by, list_any, list_all, range_with_len}
 use Rattle.std.proofs.lemmas.Bool.Decides.{Decides-ltb}
 use Rattle.std.proofs.lemmas.List.Folds.{list_any_at, sum_by-replicate}
 use Rattle.std.proofs.lemmas.List.FromFn.{get_or-range_with_len, length-range_with_len, get_or-map-range_with_len, length-map-range_with_len, sum_by-map-range_with_len_more}
-use Rattle.residency.specs.declared.entries.Entry.{Entry}
-use Rattle.residency.specs.declared.entries.What.{What}
-use Rattle.residency.specs.declared.entries.What.TheVariants.{Pin, Settle, Ask, Narrow, Unpin, Take, Install, Fail, Spoil, Starve, Full, Stop}
+use Rattle.journal.specs.declared.entries.Entry.{Entry}
+use Rattle.journal.specs.declared.entries.What.{What}
+use Rattle.journal.specs.declared.entries.What.TheVariants.{Pin, Settle, Ask, Narrow, Unpin, Take, Install, Fail, Spoil, Starve, Full, Stop}
 use Rattle.residency.specs.Frame.{Frame}
 use Rattle.residency.specs.declared.wants.Want.{Want}
-use Rattle.residency.specs.declared.layouts.Layout.{Layout}
-use Rattle.residency.specs.Layout.{InBounds, page_numbers, uppers_of, is_upper, ascends}
+use Rattle.journal.specs.declared.layouts.Layout.{Layout}
+use Rattle.journal.specs.Layout.{InBounds, page_numbers, uppers_of, is_upper, ascends}
 use Rattle.residency.specs.Next.{can_take, is_take, next_in}
 use Rattle.residency.specs.Rules.{allows, owns, pins, loads, is_maker, is_page_list, all_resident, any_resident, is_allowed, first_refused_after, IsLegal}
 use Rattle.residency.specs.Sound.{IsSound}

@@ -6,9 +6,9 @@ use Rattle.std.proofs.lemmas.Bool.Decides.{nat_tests, Decides-ltb}
 use Rattle.std.proofs.lemmas.List.{get_or_past, length-replicate}
 use Rattle.std.proofs.lemmas.List.FromFn.{length-range_with_len}
 use Rattle.std.proofs.lemmas.List.Sums.{sum_by-cons, sum_by_push, count_by-le-length}
-use Rattle.residency.specs.declared.layouts.Layout.{Layout}
+use Rattle.journal.specs.declared.layouts.Layout.{Layout}
 use Rattle.residency.specs.Holding.{one}
-use Rattle.residency.specs.Layout.{InBounds, page_numbers, uppers_of, is_upper, ascends_from}
+use Rattle.journal.specs.Layout.{InBounds, page_numbers, uppers_of, is_upper, ascends_from}
 use Rattle.residency.specs.Leaf.{count_on, Begins, CountsLowers}
 use Rattle.residency.proofs.Counts.{count_in, count_in-cons, one-cond}
 use Rattle.residency.proofs.Ranges.{range_with_len-more}

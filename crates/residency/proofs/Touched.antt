@@ -2,10 +2,10 @@
 use Rattle.std.proofs.Common.{◌≡◌, ◌≢◌, ℕ, ◌==◌, List, [], ◌∷◌, Bool, true, false, not, ◌&&◌, ◌||◌, ⊎_elim, Option, Some, None, is_some, get_or, set, get_or-set_other, refl, sym, ap, ◌∙◌, arith}
 use Rattle.std.specs.List.{list_any, list_all}
 use Rattle.std.proofs.lemmas.Bool.Decides.{nat_tests}
-use Rattle.residency.specs.declared.entries.What.{What}
-use Rattle.residency.specs.declared.entries.What.TheVariants.{Pin, Settle, Ask, Narrow, Unpin, Take, Install, Fail, Spoil, Starve, Full, Stop}
-use Rattle.residency.specs.declared.layouts.Layout.{Layout}
-use Rattle.residency.specs.Layout.{uppers_of}
+use Rattle.journal.specs.declared.entries.What.{What}
+use Rattle.journal.specs.declared.entries.What.TheVariants.{Pin, Settle, Ask, Narrow, Unpin, Take, Install, Fail, Spoil, Starve, Full, Stop}
+use Rattle.journal.specs.declared.layouts.Layout.{Layout}
+use Rattle.journal.specs.Layout.{uppers_of}
 use Rattle.residency.specs.Next.{can_take}
 use Rattle.residency.specs.Offer.{may_free, may_load, is_ended}
 use Rattle.residency.specs.State.{State, changed, is_resident, is_loading, is_held}

@@ -1,7 +1,7 @@
 -- What a contract sees of a pool: the layout and the journal, and nothing that follows from them.
 use Rattle.std.specs.Prelude.{List, [], ◌∷◌, ◌++◌}
-use Rattle.residency.specs.declared.entries.Entry.{Entry}
-use Rattle.residency.specs.declared.layouts.Layout.{Layout}
+use Rattle.journal.specs.declared.entries.Entry.{Entry}
+use Rattle.journal.specs.declared.layouts.Layout.{Layout}
 
 pub record History : Type 0 where
   pub layout : Layout

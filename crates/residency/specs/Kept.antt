@@ -2,9 +2,9 @@
 use Rattle.std.specs.Prelude.{List, length}
 use Rattle.residency.specs.Agreement.{Stands}
 use Rattle.residency.specs.declared.accounts.Account.{Account}
-use Rattle.residency.specs.declared.entries.Entry.{Entry}
-use Rattle.residency.specs.declared.layouts.Layout.{Layout}
-use Rattle.residency.specs.Layout.{InBounds}
+use Rattle.journal.specs.declared.entries.Entry.{Entry}
+use Rattle.journal.specs.declared.layouts.Layout.{Layout}
+use Rattle.journal.specs.Layout.{InBounds}
 use Rattle.residency.specs.Offer.{AreOffered}
 use Rattle.residency.specs.Parking.{Ranks}
 use Rattle.residency.specs.Recalled.{Recalls}

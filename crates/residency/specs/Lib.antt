@@ -1,12 +1,9 @@
 pub mod Agreement
 pub mod Frame
-pub mod Grammar
 pub mod History
 pub mod Holding
 pub mod Kept
-pub mod Layout
 pub mod Leaf
-pub mod Left
 pub mod Lower
 pub mod Next
 pub mod Offer
@@ -16,7 +13,5 @@ pub mod Recalled
 pub mod Rules
 pub mod Shown
 pub mod Sound
-pub mod Spelling
 pub mod State
-pub mod Typed
 pub mod Victim

@@ -2,9 +2,9 @@
 use Rattle.std.specs.Prelude.{◌≡◌, ◌==◌, ◌&&◌, ℕ, Bool, true, List, map}
 use Rattle.std.specs.List.{list_any}
 use Rattle.std.specs.List.Sorted.{IsNonDecreasingBy}
-use Rattle.residency.specs.declared.layouts.Layout.{Layout}
+use Rattle.journal.specs.declared.layouts.Layout.{Layout}
 use Rattle.residency.specs.declared.lowers.Lowers.{Lowers}
-use Rattle.residency.specs.Layout.{is_upper}
+use Rattle.journal.specs.Layout.{is_upper}
 
 -- each of the uppers with this lower
 abbrev pub pairs_of : ℕ → List ℕ → List (ℕ × ℕ)

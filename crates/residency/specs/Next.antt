@@ -1,12 +1,12 @@
 -- What a loader may do next, for a frame or for all.
 use Rattle.std.specs.Prelude.{◌==◌, ◌&&◌, ℕ, List, Bool, true, false, not, find, nat_lt, if◌then◌else◌, Option, None, Some}
 use Rattle.std.specs.List.{list_all}
-use Rattle.residency.specs.declared.entries.Entry.{Entry}
+use Rattle.journal.specs.declared.entries.Entry.{Entry}
 use Rattle.residency.specs.declared.wants.Want.{Want}
-use Rattle.residency.specs.declared.layouts.Layout.{Layout}
+use Rattle.journal.specs.declared.layouts.Layout.{Layout}
 use Rattle.residency.specs.declared.nexts.Next.{Next}
 use Rattle.residency.specs.declared.nexts.Next.TheVariants.{Take, Full, Busy, Nothing}
-use Rattle.residency.specs.Layout.{uppers_of}
+use Rattle.journal.specs.Layout.{uppers_of}
 use Rattle.residency.specs.State.{State, is_resident, is_loading, is_held, held_count, state_of}
 use Rattle.residency.specs.Victim.{victim_for}
 

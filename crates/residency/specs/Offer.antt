@@ -4,12 +4,12 @@ use Rattle.std.specs.BTreeMap.{BTreeMap}
 use Rattle.std.specs.BTreeMap.Range.{range_contains}
 use Rattle.std.specs.BTreeSet.{BTreeSet, contains}
 use Rattle.std.specs.declared.ops.Bound.{Bound}
-use Rattle.residency.specs.declared.entries.What.{What}
-use Rattle.residency.specs.declared.entries.What.TheVariants.{Take, Install, Fail, Spoil, Starve}
-use Rattle.residency.specs.declared.layouts.Layout.{Layout}
+use Rattle.journal.specs.declared.entries.What.{What}
+use Rattle.journal.specs.declared.entries.What.TheVariants.{Take, Install, Fail, Spoil, Starve}
+use Rattle.journal.specs.declared.layouts.Layout.{Layout}
 use Rattle.residency.specs.declared.offers.Offers.{Offers}
 use Rattle.residency.specs.declared.wants.Want.{Want}
-use Rattle.residency.specs.Layout.{is_upper}
+use Rattle.journal.specs.Layout.{is_upper}
 use Rattle.residency.specs.Lower.{HasLowers}
 use Rattle.residency.specs.Next.{can_take, is_want_for}
 use Rattle.residency.specs.Queue.{pair_cmp, want_at, is_among, is_one_of}

@@ -6,10 +6,10 @@ use Rattle.std.specs.BTreeSet as set
 use Rattle.std.specs.List.{list_any}
 use Rattle.std.specs.Ordering.{nat_cmp}
 use Rattle.std.specs.declared.cmp.Reverse.{Reverse}
-use Rattle.residency.specs.declared.entries.What.{What}
-use Rattle.residency.specs.declared.entries.What.TheVariants.{Settle, Narrow, Unpin, Install}
+use Rattle.journal.specs.declared.entries.What.{What}
+use Rattle.journal.specs.declared.entries.What.TheVariants.{Settle, Narrow, Unpin, Install}
 use Rattle.residency.specs.declared.frames.Hold.{Hold}
-use Rattle.residency.specs.declared.layouts.Layout.{Layout}
+use Rattle.journal.specs.declared.layouts.Layout.{Layout}
 use Rattle.residency.specs.declared.leaves.Leaves.{Leaves}
 use Rattle.residency.specs.declared.standings.Standing.{Standing}
 use Rattle.residency.specs.Frame.{Frame}

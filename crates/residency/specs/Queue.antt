@@ -5,8 +5,8 @@ use Rattle.std.specs.BTreeSet.{BTreeSet, contains}
 use Rattle.std.specs.List.{list_any}
 use Rattle.std.specs.Ordering.{nat_cmp, ordering_then}
 use Rattle.std.specs.declared.cmp.Ordering.{Ordering}
-use Rattle.residency.specs.declared.entries.What.{What}
-use Rattle.residency.specs.declared.entries.What.TheVariants.{Settle, Ask}
+use Rattle.journal.specs.declared.entries.What.{What}
+use Rattle.journal.specs.declared.entries.What.TheVariants.{Settle, Ask}
 use Rattle.residency.specs.declared.frames.Hold.{Hold}
 use Rattle.residency.specs.declared.wants.Want.{Want}
 use Rattle.residency.specs.declared.wants.Wants.{Wants}

@@ -2,13 +2,13 @@
 use Rattle.std.specs.Prelude.{◌≡◌, ◌==◌, ◌-◌, ◌^◌, ◌&&◌, ◌||◌, ℕ, Bool, true, false, not, List, [], ◌∷◌, ◌++◌, length, fold, nat_eq, nat_lt, nat_le, Option, None, Some, slice_index_or}
 use Rattle.std.specs.List.{list_all, list_any}
 use lib.Pointwise.{pointwise}
-use Rattle.residency.specs.declared.entries.Entry.{Entry}
-use Rattle.residency.specs.declared.entries.Spoilt.{Spoilt}
-use Rattle.residency.specs.declared.entries.Spoilt.TheVariants.{Digest, Grammar, Short}
-use Rattle.residency.specs.declared.entries.What.{What}
-use Rattle.residency.specs.declared.entries.What.TheVariants.{Pin, Settle, Ask, Narrow, Unpin, Take, Install, Fail, Spoil, Starve, Full, Stop}
-use Rattle.residency.specs.declared.layouts.Layout.{Layout}
-use Rattle.residency.specs.Layout.{ascends, all_below}
+use Rattle.journal.specs.declared.entries.Entry.{Entry}
+use Rattle.journal.specs.declared.entries.Spoilt.{Spoilt}
+use Rattle.journal.specs.declared.entries.Spoilt.TheVariants.{Digest, Grammar, Short}
+use Rattle.journal.specs.declared.entries.What.{What}
+use Rattle.journal.specs.declared.entries.What.TheVariants.{Pin, Settle, Ask, Narrow, Unpin, Take, Install, Fail, Spoil, Starve, Full, Stop}
+use Rattle.journal.specs.declared.layouts.Layout.{Layout}
+use Rattle.journal.specs.Layout.{ascends, all_below}
 use Rattle.residency.specs.Next.{next_in, is_take, is_full}
 use Rattle.residency.specs.State.{State, is_resident, state_of}
 

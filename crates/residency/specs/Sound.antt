@@ -1,7 +1,7 @@
 -- What holds after every legal journal.
 use Rattle.std.specs.Prelude.{◌≡◌, ◌<◌, ◌≤◌, ℕ, IsTrue, length}
-use Rattle.residency.specs.declared.layouts.Layout.{Layout}
-use Rattle.residency.specs.Layout.{is_upper}
+use Rattle.journal.specs.declared.layouts.Layout.{Layout}
+use Rattle.journal.specs.Layout.{is_upper}
 use Rattle.residency.specs.State.{State, is_resident, is_loading, is_held, held_count}
 use Rattle.residency.specs.Victim.{is_pinned}
 

@@ -1,13 +1,13 @@
 -- How the pool stands after a journal: a fold over its entries, from the oldest on.
 use Rattle.std.specs.Prelude.{◌==◌, ◌+◌, ◌&&◌, ◌||◌, ℕ, Bool, true, false, not, List, [], ◌∷◌, ◌++◌, length, map, filter, fold, nat_lt, replicate, if◌then◌else◌, Option, None, Some, is_some, count_by, slice_set, slice_index_or}
 use Rattle.std.specs.List.{list_any}
-use Rattle.residency.specs.declared.entries.Entry.{Entry}
-use Rattle.residency.specs.declared.entries.What.{What}
-use Rattle.residency.specs.declared.entries.What.TheVariants.{Pin, Settle, Ask, Narrow, Unpin, Take, Install, Fail, Spoil, Starve, Stop}
+use Rattle.journal.specs.declared.entries.Entry.{Entry}
+use Rattle.journal.specs.declared.entries.What.{What}
+use Rattle.journal.specs.declared.entries.What.TheVariants.{Pin, Settle, Ask, Narrow, Unpin, Take, Install, Fail, Spoil, Starve, Stop}
 use Rattle.residency.specs.Frame.{Frame}
 use Rattle.residency.specs.declared.wants.Want.{Want}
-use Rattle.residency.specs.declared.layouts.Layout.{Layout}
-use Rattle.residency.specs.Layout.{page_numbers}
+use Rattle.journal.specs.declared.layouts.Layout.{Layout}
+use Rattle.journal.specs.Layout.{page_numbers}
 
 -- a list by page has an item for each page, in the order of their numbers
 pub record State : Type 0 where

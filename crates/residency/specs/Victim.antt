@@ -1,9 +1,9 @@
 -- Which page is evicted for a page that is to be loaded.
 use Rattle.std.specs.Prelude.{◌≡◌, ◌<◌, ◌≤◌, ◌⊎◌, IsTrue, ◌&&◌, ℕ, List, Bool, false, not, fold, filter, nat_lt, if◌then◌else◌, Option, None, Some, slice_index_or}
 use Rattle.std.specs.List.{list_any}
-use Rattle.residency.specs.declared.entries.Entry.{Entry}
-use Rattle.residency.specs.declared.layouts.Layout.{Layout}
-use Rattle.residency.specs.Layout.{page_numbers, is_upper}
+use Rattle.journal.specs.declared.entries.Entry.{Entry}
+use Rattle.journal.specs.declared.layouts.Layout.{Layout}
+use Rattle.journal.specs.Layout.{page_numbers, is_upper}
 use Rattle.residency.specs.State.{State, is_resident, is_held, state_of}
 
 -- whether some live frame pins the page

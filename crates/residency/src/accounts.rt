@@ -1,10 +1,10 @@
 ghost use Rattle.std.specs.Prelude.{◌≡◌, ◌++◌, ◌∷◌, ◌<◌, ◌-◌, ◌^◌, [], true, IfOk, OnOk, OnErr, List, ℕ};
-ghost use Rattle.residency.specs.declared.entries.Entry.{Entry};
-ghost use Rattle.residency.specs.declared.entries.What.TheVariants.{Pin};
+ghost use Rattle.journal.specs.declared.entries.Entry.{Entry};
+ghost use Rattle.journal.specs.declared.entries.What.TheVariants.{Pin};
 ghost use Rattle.residency.specs.Recalled.{Recalls, frame_begun};
 ghost use Rattle.residency.specs.Agreement.{Agrees, Stands};
 ghost use Rattle.residency.specs.Frame.{Frame};
-ghost use Rattle.residency.specs.Layout.{InBounds};
+ghost use Rattle.journal.specs.Layout.{InBounds};
 ghost use Rattle.residency.specs.Offer.{AreOffered, ListsTouched};
 ghost use Rattle.residency.specs.Parking.{Ranks};
 ghost use Rattle.residency.specs.Rules.{is_allowed, IsLegal};

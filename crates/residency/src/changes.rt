@@ -2,7 +2,7 @@ ghost use Rattle.std.specs.Prelude.{◌≡◌, ◌<◌, ◌+◌, ◌-◌, ◌^�
 ghost use Rattle.residency.specs.Agreement.{Agrees, Stands};
 ghost use Rattle.residency.specs.Frame.{Frame};
 ghost use Rattle.residency.specs.Holding.{IsIndexed, NamesAll};
-ghost use Rattle.residency.specs.Layout.{ascends};
+ghost use Rattle.journal.specs.Layout.{ascends};
 ghost use Rattle.residency.specs.Queue.{IsNarrower, QueuesFrom, QueuesPages, is_one_of};
 ghost use Rattle.residency.specs.Parking.{Moves, Stays};
 ghost use Rattle.residency.specs.Rules.{all_resident, allows};
@@ -10,9 +10,9 @@ ghost use Rattle.residency.specs.Shown.{shown};
 ghost use Rattle.residency.specs.Sound.{IsSound};
 ghost use Rattle.residency.specs.State.{State, is_live, is_resident, changed, after};
 ghost use Rattle.residency.specs.Victim.{is_pinned};
-ghost use Rattle.residency.specs.declared.entries.Entry.{Entry};
-ghost use Rattle.residency.specs.declared.entries.What.TheVariants.{Pin, Settle, Ask, Narrow, Unpin, Take, Install, Starve};
-ghost use Rattle.residency.specs.declared.layouts.Layout.{Layout};
+ghost use Rattle.journal.specs.declared.entries.Entry.{Entry};
+ghost use Rattle.journal.specs.declared.entries.What.TheVariants.{Pin, Settle, Ask, Narrow, Unpin, Take, Install, Starve};
+ghost use Rattle.journal.specs.declared.layouts.Layout.{Layout};
 
 use crate::arrays::name_at;
 use crate::frames::{Frames, Hold, set_of};

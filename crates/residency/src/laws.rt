@@ -1,9 +1,9 @@
 //! The laws of journals, as functions without a body: each clause holds for every layout and journal.
 
 ghost use Rattle.std.specs.Prelude.{◌≡◌, ◌<◌, ℕ, List, IsTrue, Some, None, ⊤};
-ghost use Rattle.residency.specs.declared.entries.Entry.{Entry};
-ghost use Rattle.residency.specs.declared.layouts.Layout.{Layout};
-ghost use Rattle.residency.specs.Layout.{InBounds};
+ghost use Rattle.journal.specs.declared.entries.Entry.{Entry};
+ghost use Rattle.journal.specs.declared.layouts.Layout.{Layout};
+ghost use Rattle.journal.specs.Layout.{InBounds};
 ghost use Rattle.residency.specs.Rules.{IsLegal};
 ghost use Rattle.residency.specs.Sound.{IsSound};
 ghost use Rattle.residency.specs.State.{state_of};

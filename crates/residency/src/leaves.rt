@@ -1,8 +1,8 @@
 ghost use Rattle.std.specs.Prelude.{◌≡◌, ◌+◌, ◌-◌, ◌<◌, ◌^◌, ℕ, Bool, IfOk, OnOk, count_by, length, min, nat_eq, slice_index_or, true, List};
-ghost use Rattle.residency.specs.declared.entries.Entry.{Entry};
-ghost use Rattle.residency.specs.declared.layouts.Layout.{Layout};
+ghost use Rattle.journal.specs.declared.entries.Entry.{Entry};
+ghost use Rattle.journal.specs.declared.layouts.Layout.{Layout};
 ghost use Rattle.residency.specs.Frame.{Frame};
-ghost use Rattle.residency.specs.Layout.{InBounds};
+ghost use Rattle.journal.specs.Layout.{InBounds};
 ghost use Rattle.residency.specs.Leaf.{Begins, CountsLowers, IsWider, Removes, is_leaf, ranks};
 ghost use Rattle.residency.specs.Rules.{allows};
 ghost use Rattle.residency.specs.Shown.{shown};
@@ -11,7 +11,6 @@ ghost use Rattle.residency.specs.State.{State, changed, is_held, opening};
 ghost use Rattle.residency.specs.Victim.{is_stood_on};
 
 use crate::arrays::{count_at, lower, raise, zeros};
-use crate::pages::uppers_of;
 use crate::standings::Standing;
 use crate::{Layout, What};
 use geom_core::Memory;
@@ -133,7 +132,7 @@ impl Leaves {
         ensures order { self.new.order ≡ self.old.order }
         ensures parked { self.new.parked ≡ self.old.parked }
     {
-        raise_all(&mut self.lowers, uppers_of(layout, page));
+        raise_all(&mut self.lowers, layout.uppers_of(page));
     }
 
     /// Counts a page that was resident or being loaded until now no more at its uppers.
@@ -144,7 +143,7 @@ impl Leaves {
         ensures order { self.new.order ≡ self.old.order }
         ensures parked { self.new.parked ≡ self.old.parked }
     {
-        lower_all(&mut self.lowers, uppers_of(layout, page));
+        lower_all(&mut self.lowers, layout.uppers_of(page));
     }
 
     /// Counts as the pages are that are resident or being loaded after the entry.

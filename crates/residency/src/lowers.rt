@@ -1,10 +1,9 @@
 ghost use Rattle.std.specs.Prelude.{◌≡◌, ◌<◌, ◌≤◌, ◌++◌, ℕ, IfOk, true, length, slice_index_or};
-ghost use Rattle.residency.specs.Layout.{InBounds, is_upper};
+ghost use Rattle.journal.specs.Layout.{InBounds, is_upper};
 ghost use Rattle.residency.specs.Lower.{HasLowers, IsByUpper, has_pair, pairs_of};
-ghost use Rattle.residency.specs.declared.layouts.Layout.{Layout};
+ghost use Rattle.journal.specs.declared.layouts.Layout.{Layout};
 
 use crate::Layout;
-use crate::pages::uppers_of;
 use geom_core::Memory;
 use std::alloc::Global;
 
@@ -36,7 +35,7 @@ fn all_pairs(alloc: Global, layout: &Layout) -> Result<Vec<(u32, u32)>, Memory>
 {
     let mut pairs = Vec::new(alloc);
     for page in 0..layout.pages {
-        pairs = add_pairs(pairs, uppers_of(layout, page), page)?;
+        pairs = add_pairs(pairs, layout.uppers_of(page), page)?;
     }
     Ok(pairs)
 }

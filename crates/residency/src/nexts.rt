@@ -5,14 +5,13 @@ ghost use Rattle.residency.specs.Parking.{Ranks};
 ghost use Rattle.residency.specs.Offer.{AreOffered, IsSpan, passing};
 ghost use Rattle.residency.specs.Queue.{IsQueued, pair_cmp, want_at};
 ghost use Rattle.residency.specs.Shown.{shown};
-ghost use Rattle.residency.specs.declared.layouts.Layout.{Layout};
+ghost use Rattle.journal.specs.declared.layouts.Layout.{Layout};
 ghost use Rattle.std.specs.BTreeMap.Range.{IsLeBy, IsLtBy};
 ghost use Rattle.std.specs.Range.Bound.{IsForward};
 ghost use Rattle.residency.specs.Next.{is_want_for, can_take, is_takeable, first_takeable, is_busy, first_loading, next_at, next_without, next_in};
 
 use crate::Layout;
 use crate::accounts::Account;
-use crate::pages::uppers_of;
 use crate::standings::Standing;
 use crate::victims::victim_for;
 use crate::wants::{Want, Wants};
@@ -56,7 +55,7 @@ fn is_want_for(frame: Option<u32>, want: &Want) -> bool
 pub fn can_take(layout: &Layout, standing: &Standing, page: u32) -> bool
     ensures { result ≡ can_take layout.now (shown standing.now []) page }
 {
-    !standing.is_held(page) && standing.all_resident(uppers_of(layout, page))
+    !standing.is_held(page) && standing.all_resident(layout.uppers_of(page))
 }
 
 /// Whether it is a want for the frame, or for any, and its page can be taken.

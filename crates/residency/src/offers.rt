@@ -1,14 +1,14 @@
 ghost use Rattle.std.specs.Prelude.{◌≡◌, ◌==◌, ℕ, IfOk, IfSome, OnOk, List, Some, [], true};
 ghost use Rattle.std.specs.List.{list_any};
 ghost use Rattle.residency.specs.Frame.{Frame};
-ghost use Rattle.residency.specs.Layout.{InBounds};
+ghost use Rattle.journal.specs.Layout.{InBounds};
 ghost use Rattle.residency.specs.Lower.{HasLowers};
 ghost use Rattle.residency.specs.Offer.{AreOffered, HasEach, HasPages, HasPassing, IsWider, ListsTouched, has_ticket, is_victim, may_free, may_load};
 ghost use Rattle.residency.specs.Next.{can_take};
 ghost use Rattle.residency.specs.Queue.{IsQueued, is_among, pages_queued, want_at};
 ghost use Rattle.residency.specs.Shown.{shown};
 ghost use Rattle.residency.specs.State.{State, is_loading};
-ghost use Rattle.residency.specs.declared.layouts.Layout.{Layout};
+ghost use Rattle.journal.specs.declared.layouts.Layout.{Layout};
 ghost use Rattle.residency.specs.declared.wants.Want.{Want};
 
 use crate::lowers::Lowers;

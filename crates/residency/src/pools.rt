@@ -1,6 +1,6 @@
 ghost use Rattle.std.specs.Prelude.{◌≡◌, ◌<◌, ◌↔◌, ◌++◌, ◌∷◌, [], ℕ, Bool, false, true, List, Some, IfOk, OnOk, OnErr, ◌-◌, ◌^◌, length, vec_len, vec_capacity};
 ghost use Rattle.residency.specs.History.{History, begun, entered};
-ghost use Rattle.residency.specs.Layout.{InBounds};
+ghost use Rattle.journal.specs.Layout.{InBounds};
 ghost use Rattle.residency.specs.Next.{next_after};
 ghost use Rattle.residency.specs.Rules.{is_allowed, first_refused, IsLegal};
 ghost use Rattle.residency.specs.Sound.{IsSound};

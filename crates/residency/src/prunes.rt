@@ -6,11 +6,10 @@ ghost use Rattle.residency.specs.Parking.{IsUnnamed, Ranks, names};
 ghost use Rattle.residency.specs.Shown.{shown};
 ghost use Rattle.residency.specs.State.{is_resident};
 ghost use Rattle.residency.specs.declared.leaves.Leaves.{Leaves};
-ghost use Rattle.residency.specs.declared.layouts.Layout.{Layout};
+ghost use Rattle.journal.specs.declared.layouts.Layout.{Layout};
 
 use crate::arrays::count_at;
 use crate::leaves::{Leaves, remove, stands};
-use crate::pages::uppers_of;
 use crate::releases::after;
 use crate::standings::Standing;
 use crate::{Layout, What};
@@ -122,7 +121,7 @@ impl Leaves {
             Ranks layout.now frames standing.now self.old →
             Ranks layout.now frames standing.now self.new }
     {
-        for upper in uppers_of(layout, page) {
+        for upper in layout.uppers_of(page) {
             if self.is_baring(layout, standing, *upper) {
                 self.tidy(layout, standing, *upper);
             }
@@ -259,13 +258,7 @@ impl Leaves {
 
     /// Lets the victim, and the uppers of the page that is being loaded, stand in no place but their own,
     /// and pages that were named again since in none of the first places.
-    fn prune_taken(
-        &mut self,
-        layout: &Layout,
-        standing: &Standing,
-        page: u32,
-        victim: Option<u32>,
-    )
+    fn prune_taken(&mut self, layout: &Layout, standing: &Standing, page: u32, victim: Option<u32>)
         ensures { (entries : ℕ) (frames : List Frame) → Agrees entries frames standing.now →
             Ranks layout.now frames standing.now self.old →
             Ranks layout.now frames standing.now self.new }

@@ -3,11 +3,11 @@ ghost use Rattle.std.specs.BTreeSet as set;
 ghost use Rattle.std.specs.List.{list_any};
 ghost use Rattle.std.specs.Ordering.{nat_cmp};
 ghost use Rattle.residency.specs.Agreement.{Agrees};
-ghost use Rattle.residency.specs.declared.entries.Entry.{Entry};
-ghost use Rattle.residency.specs.declared.layouts.Layout.{Layout};
+ghost use Rattle.journal.specs.declared.entries.Entry.{Entry};
+ghost use Rattle.journal.specs.declared.layouts.Layout.{Layout};
 ghost use Rattle.residency.specs.Frame.{Frame};
 ghost use Rattle.residency.specs.Holding.{covers};
-ghost use Rattle.residency.specs.Layout.{InBounds, is_upper};
+ghost use Rattle.journal.specs.Layout.{InBounds, is_upper};
 ghost use Rattle.residency.specs.Leaf.{IsWider, count_on, is_leaf, ranks};
 ghost use Rattle.residency.specs.Parking.{Grows, IsBare, IsNamedAlone, IsPut, IsReady, IsUnnamed, LetsGo, Ranks, names};
 ghost use Rattle.residency.specs.Rules.{allows};
@@ -17,7 +17,6 @@ ghost use Rattle.residency.specs.State.{is_held};
 
 use crate::arrays::count_at;
 use crate::leaves::{Leaves, insert};
-use crate::pages::uppers_of;
 use crate::standings::Standing;
 use crate::{Layout, What};
 use geom_core::Memory;
@@ -246,7 +245,7 @@ impl Leaves {
             count_on layout.now (is_held (shown standing.now frames)) upper ≤ 1 →
             IsBare frames standing.now self.new upper) }
     {
-        for upper in uppers_of(layout, page) {
+        for upper in layout.uppers_of(page) {
             self.bare_page(layout, standing, *upper)?;
         }
         Ok(())

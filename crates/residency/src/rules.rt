@@ -1,20 +1,21 @@
 ghost use Rattle.std.specs.Prelude.{◌≡◌, [], List, ℕ};
 ghost use Rattle.residency.specs.Agreement.{Agrees};
 ghost use Rattle.residency.specs.Frame.{Frame};
-ghost use Rattle.residency.specs.declared.entries.Entry.{Entry};
+ghost use Rattle.journal.specs.declared.entries.Entry.{Entry};
 ghost use Rattle.residency.specs.Recalled.{Recalls};
 ghost use Rattle.residency.specs.Parking.{Ranks};
 ghost use Rattle.residency.specs.Offer.{AreOffered};
 ghost use Rattle.residency.specs.Shown.{shown};
 ghost use Rattle.residency.specs.Rules.{rose, is_wrong, allows};
 ghost use Rattle.residency.specs.Next.{is_take, is_full};
-ghost use Rattle.residency.specs.declared.entries.What.TheVariants.{Settle, Ask, Narrow, Take, Full};
+ghost use Rattle.journal.specs.declared.entries.What.TheVariants.{Settle, Ask, Narrow, Take, Full};
 
 use crate::accounts::Account;
 use crate::nexts::next_in;
-use crate::pages::{ascends, is_page_list};
+use crate::pages::is_page_list;
 use crate::standings::Standing;
 use crate::{Entry, Layout, Next, Spoilt, What};
+use journal::ascends;
 
 /// Whether the count of faults rose, or stays at its greatest.
 fn rose(before: u64, after: u64) -> bool

@@ -4,7 +4,7 @@ ghost use Rattle.residency.specs.Agreement.{Agrees};
 ghost use Rattle.residency.specs.Frame.{Frame};
 ghost use Rattle.residency.specs.Holding.{covers};
 ghost use Rattle.residency.specs.Rules.{owns, pins, loads, all_resident, any_resident};
-ghost use Rattle.residency.specs.Layout.{page_numbers};
+ghost use Rattle.journal.specs.Layout.{page_numbers};
 ghost use Rattle.residency.specs.Shown.{shown};
 ghost use Rattle.residency.specs.State.{opening, is_resident, is_loading, is_held, is_live, held_count};
 ghost use Rattle.residency.specs.Victim.{is_pinned};

@@ -8,7 +8,6 @@ ghost use Rattle.residency.specs.Victim.{named_of, is_evictable, victim_for};
 
 use crate::Layout;
 use crate::accounts::Account;
-use crate::pages::is_upper;
 use crate::releases::after;
 use crate::standings::Standing;
 use std::cmp::Reverse;
@@ -29,7 +28,7 @@ fn is_evictable(layout: &Layout, account: &Account, page: u32, candidate: u32) -
     if standing.is_pinned(candidate) {
         return false;
     }
-    !account.leaves.is_stood_on(candidate) && !is_upper(layout, candidate, page)
+    !account.leaves.is_stood_on(candidate) && !layout.is_upper(candidate, page)
 }
 
 /// The count of entries at which the page was last named, 0 where it never was.

@@ -2,7 +2,7 @@ ghost use Rattle.std.specs.Prelude.{◌≡◌, ◌++◌, ◌+◌, ℕ, IfOk, OnO
 ghost use Rattle.std.specs.BTreeMap.{get, is_at, values};
 ghost use Rattle.std.specs.List.{list_any};
 ghost use Rattle.std.specs.Ordering.{nat_cmp};
-ghost use Rattle.residency.specs.Layout.{ascends};
+ghost use Rattle.journal.specs.Layout.{ascends};
 ghost use Rattle.residency.specs.Queue.{Ends, IsAsBefore, IsNarrower, IsOwned, IsQueued, ListsFrame, ListsGone, ListsPage, PutsAll, PutsSome, QueuesPages, Retires, Takes, is_one_of, stays, tickets_at, waits_at, want_at};
 ghost use Rattle.residency.specs.State.{wants_of};
 

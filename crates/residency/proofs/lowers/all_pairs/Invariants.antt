@@ -1,5 +1,5 @@
 use Rattle.std.proofs.Common.{◌≡◌, ◌<◌, ℕ, true}
-use Rattle.residency.specs.Layout.{is_upper}
+use Rattle.journal.specs.Layout.{is_upper}
 use Rattle.residency.specs.Lower.{has_pair}
 use Rattle.residency.proofs.lowers.all_pairs.Given as goal
 

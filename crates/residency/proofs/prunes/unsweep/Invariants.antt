@@ -1,6 +1,6 @@
 use Rattle.std.proofs.Common.{◌≡◌, ℕ, List, true}
 use Rattle.residency.specs.Agreement.{Agrees}
-use Rattle.residency.specs.declared.layouts.Layout.{Layout}
+use Rattle.journal.specs.declared.layouts.Layout.{Layout}
 use Rattle.residency.specs.declared.leaves.Leaves.{Leaves}
 use Rattle.residency.specs.Frame.{Frame}
 use Rattle.residency.specs.Leaf.{ranks}

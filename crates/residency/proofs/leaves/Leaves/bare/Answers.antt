@@ -1,6 +1,6 @@
 use Rattle.std.proofs.Common.{ℕ, ⊎_elim, refl, subst, length, ◌≤◌}
 use Rattle.std.proofs.lemmas.List.{take_all}
-use Rattle.residency.specs.Layout.{uppers_of}
+use Rattle.journal.specs.Layout.{uppers_of}
 use Rattle.residency.specs.Parking.{IsBare}
 use Rattle.residency.proofs.Leafing.{any-more}
 use Rattle.residency.proofs.Parked.{Grows-trans, IsBare-wider, Ranks-wider}

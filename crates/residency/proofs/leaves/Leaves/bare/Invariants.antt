@@ -2,7 +2,7 @@ use Rattle.std.proofs.Common.{◌≡◌, ◌==◌, ◌<◌, ◌≤◌, ℕ, List
 use Rattle.std.specs.List.{list_any}
 use Rattle.residency.specs.Agreement.{Agrees}
 use Rattle.residency.specs.Frame.{Frame}
-use Rattle.residency.specs.Layout.{uppers_of}
+use Rattle.journal.specs.Layout.{uppers_of}
 use Rattle.residency.specs.Leaf.{count_on}
 use Rattle.residency.specs.Parking.{Grows, IsBare, Ranks}
 use Rattle.residency.specs.Shown.{shown}

@@ -1,5 +1,5 @@
 use Rattle.std.proofs.Common.{None, Some}
-use Rattle.residency.specs.declared.entries.What.TheVariants.{Take}
+use Rattle.journal.specs.declared.entries.What.TheVariants.{Take}
 use Rattle.residency.specs.State.{changed, is_held}
 use Rattle.residency.proofs.Followed.{taken-told, Begins-taken, Begins-evicted, Begins-unloaded, held-quiet}
 use Rattle.residency.proofs.Stood.{CountsLowers-same}

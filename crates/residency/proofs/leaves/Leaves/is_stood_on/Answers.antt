@@ -1,5 +1,5 @@
 use Rattle.std.proofs.Common.{◌≡◌, ap, ◌∙◌, nat_lt, get_or, ◌&&◌}
-use Rattle.residency.specs.Layout.{page_numbers, is_upper}
+use Rattle.journal.specs.Layout.{page_numbers, is_upper}
 use Rattle.residency.specs.Leaf.{count_on}
 use Rattle.residency.specs.State.{is_held}
 use Rattle.residency.proofs.Stood.{count-test}

@@ -1,5 +1,5 @@
 use Rattle.std.proofs.Common.{nat_lt}
-use Rattle.residency.specs.Layout.{InBounds}
+use Rattle.journal.specs.Layout.{InBounds}
 use Rattle.residency.specs.Leaf.{CountsLowers}
 use Rattle.residency.proofs.leaves.Leaves.opening.Given as goal
 

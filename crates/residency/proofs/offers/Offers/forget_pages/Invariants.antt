@@ -1,4 +1,4 @@
-use Rattle.residency.specs.declared.layouts.Layout.{Layout}
+use Rattle.journal.specs.declared.layouts.Layout.{Layout}
 use Rattle.residency.specs.Offer.{AreOffered}
 use Rattle.residency.specs.State.{State}
 use Rattle.residency.proofs.offers.Offers.forget_pages.Given as goal

@@ -1,5 +1,5 @@
 use Rattle.std.proofs.Common.{ℕ, List}
-use Rattle.residency.specs.declared.layouts.Layout.{Layout}
+use Rattle.journal.specs.declared.layouts.Layout.{Layout}
 use Rattle.residency.specs.Frame.{Frame}
 use Rattle.residency.specs.Offer.{AreOffered}
 use Rattle.residency.specs.Queue.{IsQueued}

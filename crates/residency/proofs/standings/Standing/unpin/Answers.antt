@@ -1,6 +1,6 @@
 use Rattle.std.proofs.Common.{◌+◌, ℕ, refl, arith, ap, sym, ◌∙◌}
 use Rattle.std.specs.BTreeMap.{BTreeMap, values}
-use Rattle.residency.specs.declared.entries.What.TheVariants.{Unpin}
+use Rattle.journal.specs.declared.entries.What.TheVariants.{Unpin}
 use Rattle.residency.specs.declared.wants.Want.{Want}
 use Rattle.residency.specs.Queue.{want_at}
 use Rattle.residency.specs.Shown.{shown}

@@ -1,0 +1,16 @@
+pub mod Bounded
+pub mod Cuts
+mod ExamplesText
+pub mod FittingUppers
+pub mod HexDigits
+pub mod KeptByLines
+pub mod Limits
+pub mod Missing
+pub mod Padding
+pub mod PrintedDigests
+pub mod PrintedEntries
+pub mod PrintedJournal
+pub mod PrintedLines
+pub mod PrintedNumbers
+pub mod PrintedParts
+pub mod WithinTypes

@@ -1,7 +1,0 @@
-use Rattle.std.proofs.Common.{ℕ, ◌<◌, [], slice_index_or}
-use Rattle.residency.specs.Layout.{UppersFit}
-use Rattle.residency.proofs.bounds.all_fit.Given as goal
-
--- the uppers so far fit
-abbrev pub invariant-loop-page : goal.invariant-loop-page
-invariant-loop-page l = (q : ℕ) → q < l.page → UppersFit q (slice_index_or l.all q [])

@@ -1,8 +1,0 @@
-use Rattle.std.proofs.Common.{◌≡◌, drop}
-use Rattle.residency.specs.Layout.{ascends_from}
-use Rattle.residency.proofs.pages.ascends.Given as goal
-
--- what is left ascends from `low` exactly where the whole ascends
-abbrev pub invariant-loop-number : goal.invariant-loop-number
-invariant-loop-number l =
-    ascends_from l.low (drop l.number-index l.numbers) ≡ ascends_from 0 l.numbers
