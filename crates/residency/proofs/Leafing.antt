@@ -1,25 +1,31 @@
 -- The order of places, and which pages are leaves.
-use Rattle.std.proofs.Common.{◌≡◌, ◌≢◌, ℕ, ◌+◌, ◌-◌, ◌^◌, ◌<◌, ◌≤◌, nat_lt, nat_eq, ◌==◌, List, [], ◌∷◌, Bool, true, false, not, ◌&&◌, ◌⊎◌, inl, inr, ⊎_elim, Option, get_or, set, length, length-set, take, nat_cmp, refl, sym, ap, ◌∙◌, arith}
+use Rattle.std.proofs.Common.{◌≡◌, ◌≢◌, ℕ, ◌+◌, ◌-◌, ◌^◌, ◌<◌, ◌≤◌, nat_lt, nat_eq, ◌==◌, List, [], ◌∷◌, Bool, true, false, not, ◌&&◌, ◌⊎◌, inl, inr, ⊎_elim, Option, get_or, set, length, length-set, take, nat_cmp, refl, sym, ap, ◌∙◌, arith, ◌++◌, Some, None, IsSome, subst, cond}
 use Rattle.std.specs.BTreeMap.{is_at}
 use Rattle.std.specs.BTreeMap.Range.{range_contains}
-use Rattle.std.specs.BTreeSet.{BTreeSet, keys_between}
+use Rattle.std.specs.BTreeSet.{BTreeSet, Updates, keys_between}
 use Rattle.std.specs.declared.ops.Bound.TheVariants.{Included, Unbounded}
 use Rattle.std.proofs.lemmas.Map.Views.{any-filter_same}
 use Rattle.std.specs.List.{list_any, list_all}
-use Rattle.std.specs.Ordering.{ordering_then, is_eq, is_le}
+use Rattle.std.specs.Ordering.{ordering_then, is_eq, is_lt}
+use Rattle.std.specs.Prelude.{IfSome}
 use Rattle.std.specs.Result.{OnOk}
 use Rattle.std.proofs.Common.{Result, Ok, Err}
 use Rattle.std.specs.declared.cmp.Ordering.{Ordering}
 use Rattle.std.specs.declared.cmp.Ordering.TheVariants.{Less, Equal, Greater}
 use Rattle.std.specs.declared.cmp.Reverse.{Reverse}
+use Rattle.std.proofs.Math.Seq.{get_or-append_seam}
 use Rattle.std.proofs.lemmas.Bool.{cases_lt}
+use Rattle.std.proofs.lemmas.List.{length-append}
+use Rattle.std.proofs.lemmas.Option.{get_or_from_slice_get}
+use Rattle.std.specs.List.{slice_get}
+use Rattle.std.proofs.lemmas.Option.{slice_get_within}
 use Rattle.std.proofs.lemmas.List.Folds.{list_any_more}
 use Rattle.std.proofs.lemmas.Bool.Decides.{nat_tests, Decides-eqb, Decides-ltb}
 use Rattle.journal.specs.declared.entries.What.{What}
 use Rattle.journal.specs.declared.entries.What.TheVariants.{Pin, Settle, Ask, Narrow, Unpin, Take, Install, Fail, Spoil, Starve, Full, Stop}
 use Rattle.journal.specs.declared.layouts.Layout.{Layout}
 use Rattle.journal.specs.Layout.{page_numbers, uppers_of, is_upper}
-use Rattle.residency.specs.Leaf.{rank, rank_cmp, ranks, is_leaf}
+use Rattle.residency.specs.Leaf.{Removes, rank, rank_cmp, ranks, is_leaf}
 use Rattle.residency.specs.State.{State, changed, is_resident, is_held, name_at}
 use Rattle.residency.specs.Victim.{is_stood_on}
 use Rattle.residency.proofs.Agreed.{name_at-len}
@@ -75,13 +81,13 @@ then-less Greater b h = cc
 then-less Equal b h = inr (refl, h)
 
 -- a query finds its own place alone
-pub rank-itself : (x : ℕ × Reverse ℕ) → is_at (rank_cmp x) x ≡ true
-rank-itself x = rw (compared-itself x.0, compared-itself x.1.0) refl
+pub rank-itself : (x : Reverse ℕ × ℕ) → is_at (rank_cmp x) x ≡ true
+rank-itself x = rw (compared-itself x.0.0, compared-itself x.1) refl
 
-pub rank-same : (x y : ℕ × Reverse ℕ) → is_at (rank_cmp x) y ≡ true → (x.0 ≡ y.0) × (x.1.0 ≡ y.1.0)
+pub rank-same : (x y : Reverse ℕ × ℕ) → is_at (rank_cmp x) y ≡ true → (x.0.0 ≡ y.0.0) × (x.1 ≡ y.1)
 rank-same x y h =
-    let parts = then-equal (nat_cmp x.0 y.0) (nat_cmp y.1.0 x.1.0) h in
-    (compared-equal x.0 y.0 parts.0, sym (compared-equal y.1.0 x.1.0 parts.1))
+    let parts = then-equal (nat_cmp y.0.0 x.0.0) (nat_cmp x.1 y.1) h in
+    (sym (compared-equal y.0.0 x.0.0 parts.0), compared-equal x.1 y.1 parts.1)
 
 same-tests : (a b : Bool) → (a ≡ true → b ≡ true) → (b ≡ true → a ≡ true) → a ≡ b
 same-tests true true h k = refl
@@ -97,50 +103,51 @@ rank-test n p m q =
     (λ h. let parts = and-both (n == m) (p == q) h in let a = same-eqb n m parts.0 in let b = same-eqb p q parts.1 in rw (a, b) (rank-itself (rank m q)))
 
 -- whether a place of the list is the page's at this count
-abbrev pub stands_in : List (ℕ × Reverse ℕ) → ℕ → ℕ → Bool
+abbrev pub stands_in : List (Reverse ℕ × ℕ) → ℕ → ℕ → Bool
 stands_in places count page = list_any (is_at (rank_cmp (rank count page))) places
 
-pub stands-first : (places rest : List (ℕ × Reverse ℕ)) (place : ℕ × Reverse ℕ) → places ≡ place ∷ rest → stands_in places place.0 place.1.0 ≡ true
+pub stands-first : (places rest : List (Reverse ℕ × ℕ)) (place : Reverse ℕ × ℕ) → places ≡ place ∷ rest → stands_in places place.0.0 place.1 ≡ true
 stands-first places rest place is =
-    ap (λ all. stands_in all place.0 place.1.0) is ∙ or-left (is_at (rank_cmp place) place) (list_any (is_at (rank_cmp place)) rest) (rank-itself place)
+    ap (λ all. stands_in all place.0.0 place.1) is ∙ or-left (is_at (rank_cmp place) place) (list_any (is_at (rank_cmp place)) rest) (rank-itself place)
 
-pub stands-later : (places rest : List (ℕ × Reverse ℕ)) (place : ℕ × Reverse ℕ) (count page : ℕ) → places ≡ place ∷ rest → stands_in rest count page ≡ true → stands_in places count page ≡ true
+pub stands-later : (places rest : List (Reverse ℕ × ℕ)) (place : Reverse ℕ × ℕ) (count page : ℕ) → places ≡ place ∷ rest → stands_in rest count page ≡ true → stands_in places count page ≡ true
 stands-later places rest place count page is h =
     ap (λ all. stands_in all count page) is ∙ or-right (is_at (rank_cmp (rank count page)) place) (stands_in rest count page) h
 
 -- it is the first, or one of the rest
-pub stands-cases : (places rest : List (ℕ × Reverse ℕ)) (place : ℕ × Reverse ℕ) (count page : ℕ) → places ≡ place ∷ rest → stands_in places count page ≡ true → ((count ≡ place.0) × (page ≡ place.1.0)) ⊎ (stands_in rest count page ≡ true)
+pub stands-cases : (places rest : List (Reverse ℕ × ℕ)) (place : Reverse ℕ × ℕ) (count page : ℕ) → places ≡ place ∷ rest → stands_in places count page ≡ true → ((count ≡ place.0.0) × (page ≡ place.1)) ⊎ (stands_in rest count page ≡ true)
 stands-cases places rest place count page is h =
     ⊎_elim (λ here. inl (rank-same (rank count page) place here)) (λ later. inr later) (or-cases (is_at (rank_cmp (rank count page)) place) (stands_in rest count page) (sym (ap (λ all. stands_in all count page) is) ∙ h))
 
-pub stands-none : (places : List (ℕ × Reverse ℕ)) (count page : ℕ) → places ≡ [] → stands_in places count page ≡ true → ⊥
+pub stands-none : (places : List (Reverse ℕ × ℕ)) (count page : ℕ) → places ≡ [] → stands_in places count page ≡ true → ⊥
 stands-none places count page is h = let no : stands_in places count page ≡ false = ap (λ all. stands_in all count page) is in cc
 
--- the first place of those from this count on
-abbrev pub start_at : ℕ → ℕ × Reverse ℕ
-start_at count = rank count (2 ^ 32 - 1)
+-- the last place that a page can have of those from this count on
+abbrev pub end_at : ℕ → Reverse ℕ × ℕ
+end_at count = rank count (2 ^ 32 - 1)
 
-not-past : (a b : ℕ) → a ≤ b → is_le (nat_cmp a b) ≡ true
-not-past a b le =
-    elim (a == b) as (λ t. (a == b) ≡ t → is_le (nat_cmp a b) ≡ true) [
-      | true ↦ λ e. let same = same-eqb a b e in rw (same, compared-itself b) refl
-      | false ↦ λ e. let less : nat_lt a b ≡ true = grind (arith, nat_tests, le) in rw less refl
+not-less : (a b : ℕ) → b ≤ a → is_lt (nat_cmp a b) ≡ false
+not-less a b le =
+    let no : nat_lt a b ≡ false = grind (arith, nat_tests, le) in
+    elim (a == b) as (λ t. (a == b) ≡ t → is_lt (nat_cmp a b) ≡ false) [
+      | true ↦ λ e. rw (no, e) refl
+      | false ↦ λ e. rw (no, e) refl
     ] refl
 
-then-not-past : (a b : Ordering) → (is_le a ≡ true) → (a ≡ Equal → is_le b ≡ true) → is_le (ordering_then a b) ≡ true
-then-not-past Less b h k = refl
-then-not-past Equal b h k = k refl
-then-not-past Greater b h k = h
+then-not-less : (a b : Ordering) → is_lt a ≡ false → is_lt b ≡ false → is_lt (ordering_then a b) ≡ false
+then-not-less Less b h k = h
+then-not-less Equal b h k = k
+then-not-less Greater b h k = refl
 
-inside-range : (start count page : ℕ) → page < 2 ^ 32 → start ≤ count → is_le (rank_cmp (start_at start) (rank count page)) ≡ true
+inside-range : (start count page : ℕ) → page < 2 ^ 32 → start ≤ count → range_contains rank_cmp Unbounded (Included (end_at start)) (rank count page) ≡ true
 inside-range start count page small le =
-    then-not-past (nat_cmp start count) (nat_cmp page (2 ^ 32 - 1)) (not-past start count le) (λ same. not-past page (2 ^ 32 - 1) (omega (arith, small)))
+    ap not (then-not-less (nat_cmp count start) (nat_cmp (2 ^ 32 - 1) page) (not-less count start le) (not-less (2 ^ 32 - 1) page (omega (arith, small))))
 
 -- the places from a count on are those of no smaller count
-pub stands-from : (places : BTreeSet (ℕ × Reverse ℕ)) (start count page : ℕ) → page < 2 ^ 32 → start ≤ count → ranks places count page ≡ true → stands_in (keys_between rank_cmp (Included (start_at start)) Unbounded places) count page ≡ true
+pub stands-from : (places : BTreeSet (Reverse ℕ × ℕ)) (start count page : ℕ) → page < 2 ^ 32 → start ≤ count → ranks places count page ≡ true → stands_in (keys_between rank_cmp Unbounded (Included (end_at start)) places) count page ≡ true
 stands-from places start count page small le has =
-    any-filter_same (is_at (rank_cmp (rank count page))) (range_contains rank_cmp (Included (start_at start)) Unbounded) true
-    (λ place here. let same = rank-same (rank count page) place here in both-true (is_le (rank_cmp (start_at start) place)) true (let P : ℕ → ℕ → Type 0 = λ n p. is_le (rank_cmp (start_at start) (rank n p)) ≡ true in rw (← same.0, ← same.1) (inside-range start count page small le)) refl) places.keys ∙ has
+    any-filter_same (is_at (rank_cmp (rank count page))) (range_contains rank_cmp Unbounded (Included (end_at start))) true
+    (λ place here. let same = rank-same (rank count page) place here in rw (← same.0, ← same.1) (inside-range start count page small le)) places.keys ∙ has
 
 -- ---- leaves
 
@@ -214,3 +221,16 @@ named-len s by (Spoil p why) = refl
 named-len s by (Starve p) = refl
 named-len s by (Full f) = refl
 named-len s by Stop = refl
+
+-- the key that is taken off the end is the last one
+pub last-popped : {K : Type 0} (keys front : List K) (k l : K) → slice_get keys (length keys - 1) ≡ Some l → keys ≡ front ++ k ∷ [] → k ≡ l
+last-popped keys front k l at is =
+    let behind : length keys - 1 ≡ length front = omega (arith, ap length is ∙ length-append front (k ∷ [])) in
+    sym (get_or-append_seam front k [] l) ∙ (ap (λ xs. get_or xs (length front) l) (sym is) ∙ (ap (λ n. get_or keys n l) (sym behind) ∙ get_or_from_slice_get keys (length keys - 1) l l at))
+
+-- so its place is the one that goes
+pub Removes-popped : (old new : BTreeSet (Reverse ℕ × ℕ)) (last : Reverse ℕ × ℕ) (popped : Option (Reverse ℕ × ℕ)) → slice_get old.keys (length old.keys - 1) ≡ Some last → (0 < length old.keys → IsSome popped) → IfSome popped (λ k. old.keys ≡ new.keys ++ k ∷ []) → IfSome popped (λ k. Updates rank_cmp old new k false) → Removes old new last.0.0 last.1
+Removes-popped old new last None at some keys updates n p = let never = some (omega (arith, slice_get_within old.keys (length old.keys - 1) last at)) in cc
+Removes-popped old new last (Some k) at some keys updates n p =
+    let P : Reverse ℕ × ℕ → Type 0 = λ q. Updates rank_cmp old new q false in
+    (subst P (last-popped old.keys new.keys k last at keys) updates).0 (rank n p) ∙ ap (λ b. cond b false (ranks old n p)) (rank-test last.0.0 last.1 n p)

@@ -31,7 +31,7 @@ use Rattle.residency.proofs.Soundness.{resident-root}
 use Rattle.residency.proofs.Tests.{and-both, same-eqb}
 
 abbrev Order : Type 0
-Order = tree.BTreeSet (ℕ × Reverse ℕ)
+Order = tree.BTreeSet (Reverse ℕ × ℕ)
 
 pub not-so : (b : Bool) → (b ≡ true → ⊥) → b ≡ false
 not-so true never = absurd (never refl)

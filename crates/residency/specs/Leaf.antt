@@ -25,23 +25,23 @@ pub record CountsLowers (layout : Layout) (held : ℕ → Bool) (items : List �
   pub counts : (page : ℕ) → page < layout.pages → slice_index_or items page 0 ≡ count_on layout held page
 
 -- the page's place at this count of entries
-abbrev pub rank : ℕ → ℕ → ℕ × Reverse ℕ
-rank count page = (count, record { 0 = page })
+abbrev pub rank : ℕ → ℕ → Reverse ℕ × ℕ
+rank count page = (record { 0 = count }, page)
 
--- the place of the least count first, of equals the one of the greatest page
-abbrev pub rank_cmp : ℕ × Reverse ℕ → ℕ × Reverse ℕ → Ordering
-rank_cmp x y = ordering_then (nat_cmp x.0 y.0) (nat_cmp y.1.0 x.1.0)
+-- the place of the greatest count first, of equals the one of the least page
+abbrev pub rank_cmp : Reverse ℕ × ℕ → Reverse ℕ × ℕ → Ordering
+rank_cmp x y = ordering_then (nat_cmp y.0.0 x.0.0) (nat_cmp x.1 y.1)
 
 -- whether the page stands among the places at this count
-abbrev pub ranks : BTreeSet (ℕ × Reverse ℕ) → ℕ → ℕ → Bool
+abbrev pub ranks : BTreeSet (Reverse ℕ × ℕ) → ℕ → ℕ → Bool
 ranks places count page = contains rank_cmp places (rank count page)
 
 -- what stood among the places still does
-abbrev pub IsWider : BTreeSet (ℕ × Reverse ℕ) → BTreeSet (ℕ × Reverse ℕ) → Type 0
+abbrev pub IsWider : BTreeSet (Reverse ℕ × ℕ) → BTreeSet (Reverse ℕ × ℕ) → Type 0
 IsWider old new = (count page : ℕ) → ranks old count page ≡ true → ranks new count page ≡ true
 
 -- the page doesn't stand among the places at this count, and all others still do
-abbrev pub Removes : BTreeSet (ℕ × Reverse ℕ) → BTreeSet (ℕ × Reverse ℕ) → ℕ → ℕ → Type 0
+abbrev pub Removes : BTreeSet (Reverse ℕ × ℕ) → BTreeSet (Reverse ℕ × ℕ) → ℕ → ℕ → Type 0
 Removes old new count page = (n p : ℕ) → ranks new n p ≡ (if (count == n) && (page == p) then false else ranks old n p)
 
 -- whether the page is resident and no root page, and no resident or loading page stands on it
@@ -50,5 +50,5 @@ is_leaf layout s page =
     is_resident s page && (not (nat_lt page layout.roots) && not (is_stood_on layout s page))
 
 -- whether the place is of a page that may be evicted for this one, and that was last named then
-abbrev pub fits : Layout → State → ℕ → ℕ × Reverse ℕ → Bool
-fits layout s page place = (named_of s place.1.0 == place.0) && is_evictable layout s page place.1.0
+abbrev pub fits : Layout → State → ℕ → Reverse ℕ × ℕ → Bool
+fits layout s page place = (named_of s place.1 == place.0.0) && is_evictable layout s page place.1

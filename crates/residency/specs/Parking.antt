@@ -62,7 +62,7 @@ pub record Stays (old new : Standing) : Type 0 where
   pub since : new.since.items ≡ old.since.items
 
 -- each leaf that no frame pins stands in order, as it was last named
-abbrev pub IsListed : Layout → State → set.BTreeSet (ℕ × Reverse ℕ) → Type 0
+abbrev pub IsListed : Layout → State → set.BTreeSet (Reverse ℕ × ℕ) → Type 0
 IsListed layout s order = (page : ℕ) → is_leaf layout s page ≡ true → is_pinned s page ≡ false →
     ranks order (named_of s page) page ≡ true
 

@@ -21,45 +21,47 @@ use std::collections::BTreeSet;
 /// What is kept of the pages that stand on others, and of the leaves, the resident pages but for root
 /// pages that no resident or loading page stands on.
 ///
-/// A place is a count of entries with a page; that of the least count comes first, of equals that of
-/// the greatest page. Others than those that are told may stand among the places.
+/// A place is a count of entries with a page; that of the greatest count comes first, of equals that of
+/// the least page. A set searches each of its nodes from the front, where a page stands that was named
+/// just now, as most are that are put in; a victim is looked for from the last place on. Others than
+/// those that are told may stand among the places.
 #[derive(Debug, Drop)]
 pub struct Leaves {
     /// By page: how many resident or loading pages stand on it.
     pub lowers: Vec<u64>,
     /// The places of the leaves that no live frame pins, as they were last named.
-    pub order: BTreeSet<(u64, Reverse<u32>)>,
+    pub order: BTreeSet<(Reverse<u64>, u32)>,
     /// The places, as they were installed, of leaves that a frame's moment covers and no frame pins by
     /// name. They go into `order` once no moment covers them.
-    pub parked: BTreeSet<(u64, Reverse<u32>)>,
+    pub parked: BTreeSet<(Reverse<u64>, u32)>,
 }
 
 /// Puts the page among the places, at this count. After Memory all is as before.
 pub fn insert(
-    places: &mut BTreeSet<(u64, Reverse<u32>)>,
+    places: &mut BTreeSet<(Reverse<u64>, u32)>,
     count: u64,
     page: u32,
 ) -> Result<(), Memory>
     ensures wider { IsWider places.old places.new }
     ensures ok { OnOk result (ranks places.new count page ≡ true) }
 {
-    places.insert((count, Reverse(page)))?;
+    places.insert((Reverse(count), page))?;
     Ok(())
 }
 
 /// Removes the page from the places, at this count; answers whether it stood there.
-pub fn remove(places: &mut BTreeSet<(u64, Reverse<u32>)>, count: u64, page: u32) -> bool
+pub fn remove(places: &mut BTreeSet<(Reverse<u64>, u32)>, count: u64, page: u32) -> bool
     ensures stood { result ≡ ranks places.old count page }
     ensures removed { Removes places.old places.new count page }
 {
-    places.remove(&(count, Reverse(page)))
+    places.remove(&(Reverse(count), page))
 }
 
 /// Whether the page stands among the places, at this count.
-pub fn stands(places: &BTreeSet<(u64, Reverse<u32>)>, count: u64, page: u32) -> bool
+pub fn stands(places: &BTreeSet<(Reverse<u64>, u32)>, count: u64, page: u32) -> bool
     ensures { result ≡ ranks places.now count page }
 {
-    places.contains(&(count, Reverse(page)))
+    places.contains(&(Reverse(count), page))
 }
 
 /// Counts one more at each of the pages.

@@ -18,7 +18,7 @@ use std::collections::BTreeSet;
 use std::ops::Bound;
 
 /// Lets a page that was parked at this count stand in order no more, where that is its own place.
-fn unorder(order: &mut BTreeSet<(u64, Reverse<u32>)>, standing: &Standing, since: u64, page: u32)
+fn unorder(order: &mut BTreeSet<(Reverse<u64>, u32)>, standing: &Standing, since: u64, page: u32)
     ensures { (layout : Layout) (entries : ℕ) (frames : List Frame) (leaves : Leaves) →
         leaves.order ≡ order.old → ranks leaves.parked since page ≡ true →
         Agrees entries frames standing.now → Ranks layout frames standing.now leaves →
@@ -35,8 +35,8 @@ fn unorder(order: &mut BTreeSet<(u64, Reverse<u32>)>, standing: &Standing, since
 
 /// Lets parked pages that a moment of this frame covers, and no other, stand in order no more.
 fn unsweep(
-    order: &mut BTreeSet<(u64, Reverse<u32>)>,
-    parked: &BTreeSet<(u64, Reverse<u32>)>,
+    order: &mut BTreeSet<(Reverse<u64>, u32)>,
+    parked: &BTreeSet<(Reverse<u64>, u32)>,
     standing: &Standing,
     frame: u32,
 )
@@ -46,22 +46,16 @@ fn unsweep(
         Ranks layout frames standing.now (record leaves { order = order.new }) }
 {
     let start = after(standing.frames.moment_without(frame));
-    for place in parked.range((start, Reverse(u32::MAX))..) {
-        let (since, Reverse(page)) = *place;
+    for place in parked.range(..=(Reverse(start), u32::MAX)) {
+        let (Reverse(since), page) = *place;
         unorder(order, standing, since, page);
     }
 }
 
-/// The first place from this count on: the count and the page.
-fn first_from(order: &BTreeSet<(u64, Reverse<u32>)>, start: u64) -> Option<(u64, u32)> {
-    // Mostly there is no live frame with a moment, and then no place has to be looked for.
-    let first = if start == 0 {
-        order.first()
-    } else {
-        order.range((start, Reverse(u32::MAX))..).next()
-    };
-    match first {
-        Some((count, Reverse(page))) => Some((*count, *page)),
+/// Of the places from this count on the last, that of the least count: the count and the page.
+fn last_from(order: &BTreeSet<(Reverse<u64>, u32)>, start: u64) -> Option<(u64, u32)> {
+    match order.range(..=(Reverse(start), u32::MAX)).next_back() {
+        Some((Reverse(count), page)) => Some((*count, *page)),
         None => None,
     }
 }
@@ -172,10 +166,10 @@ impl Leaves {
             Ranks layout frames standing.now self.new }
     {
         for _ in 0..self.parked.len() {
-            let Some(place) = self.parked.last() else {
+            let Some(place) = self.parked.first() else {
                 return;
             };
-            let (since, Reverse(page)) = *place;
+            let (Reverse(since), page) = *place;
             if standing.frames.is_covered(since) {
                 return;
             }
@@ -197,18 +191,49 @@ impl Leaves {
         true
     }
 
-    /// Lets pages that were named again since stand in the first places no more, from this count on and
-    /// up to the first page that wasn't.
-    fn drop_first(&mut self, standing: &Standing, start: u64)
+    /// Lets the page of the last place stand there no more, unless it was named then; answers whether it
+    /// wasn't.
+    fn forget_last(&mut self, standing: &Standing) -> bool
+        ensures { (layout : Layout) (entries : ℕ) (frames : List Frame) →
+            Agrees entries frames standing.now → Ranks layout frames standing.now self.old →
+            Ranks layout frames standing.now self.new }
+    {
+        let Some(place) = self.order.last() else {
+            return false;
+        };
+        let (Reverse(count), page) = *place;
+        if count_at(&standing.named, page) == count {
+            return false;
+        }
+        self.order.pop_last();
+        true
+    }
+
+    /// The same for the last of the places from this count on.
+    fn forget_last_from(&mut self, standing: &Standing, start: u64) -> bool
+        ensures { (layout : Layout) (entries : ℕ) (frames : List Frame) →
+            Agrees entries frames standing.now → Ranks layout frames standing.now self.old →
+            Ranks layout frames standing.now self.new }
+    {
+        // Mostly no live frame has a moment, and then no place has to be looked for.
+        if start == 0 {
+            return self.forget_last(standing);
+        }
+        match last_from(&self.order, start) {
+            Some((count, page)) => self.forget(standing, count, page),
+            None => false,
+        }
+    }
+
+    /// Lets pages that were named again since stand in the last places no more, of those from this count
+    /// on, back to the last whose page wasn't.
+    fn drop_last(&mut self, standing: &Standing, start: u64)
         ensures { (layout : Layout) (entries : ℕ) (frames : List Frame) →
             Agrees entries frames standing.now → Ranks layout frames standing.now self.old →
             Ranks layout frames standing.now self.new }
     {
         for _ in 0..self.order.len() {
-            let Some((count, page)) = first_from(&self.order, start) else {
-                return;
-            };
-            if !self.forget(standing, count, page) {
+            if !self.forget_last_from(standing, start) {
                 return;
             }
         }
@@ -220,14 +245,14 @@ impl Leaves {
             Agrees entries frames standing.now → Ranks layout frames standing.now self.old →
             Ranks layout frames standing.now self.new }
     {
-        let mut from = Bound::Included((start, Reverse(u32::MAX)));
+        let mut end = Bound::Included((Reverse(start), u32::MAX));
         for _ in 0..self.order.len() {
-            let Some(place) = self.order.range((from, Bound::Unbounded)).next() else {
+            let Some(place) = self.order.range((Bound::Unbounded, end)).next_back() else {
                 return;
             };
-            let (count, Reverse(page)) = *place;
+            let (Reverse(count), page) = *place;
             self.forget(standing, count, page);
-            from = Bound::Excluded((count, Reverse(page)));
+            end = Bound::Excluded((Reverse(count), page));
         }
     }
 
@@ -244,7 +269,7 @@ impl Leaves {
     }
 
     /// Lets these pages, which were named again, and those that no moment covers be parked no more, and
-    /// pages that were named again since stand in none of the first places.
+    /// pages that were named again since stand in none of the last places.
     fn prune_named(&mut self, layout: &Layout, standing: &Standing, pages: &[u32])
         ensures { (entries : ℕ) (frames : List Frame) → Agrees entries frames standing.now →
             Ranks layout.now frames standing.now self.old →
@@ -252,12 +277,12 @@ impl Leaves {
     {
         self.unpark_named(standing, pages);
         self.unpark(standing);
-        self.drop_first(standing, after(standing.frames.last_moment()));
+        self.drop_last(standing, after(standing.frames.last_moment()));
         self.drop_many(layout, standing);
     }
 
     /// Lets the victim, and the uppers of the page that is being loaded, stand in no place but their own,
-    /// and pages that were named again since in none of the first places.
+    /// and pages that were named again since in none of the last places.
     fn prune_taken(&mut self, layout: &Layout, standing: &Standing, page: u32, victim: Option<u32>)
         ensures { (entries : ℕ) (frames : List Frame) → Agrees entries frames standing.now →
             Ranks layout.now frames standing.now self.old →
@@ -266,12 +291,12 @@ impl Leaves {
         self.tidy_uppers(layout, standing, page);
         if let Some(victim) = victim {
             self.tidy(layout, standing, victim);
-            self.drop_first(standing, after(standing.frames.last_moment()));
+            self.drop_last(standing, after(standing.frames.last_moment()));
         }
     }
 
     /// After the entry, lets pages stand in no place but their own. A place at which a page stood before
-    /// it was named again may stay until it is the first that a search looks at.
+    /// it was named again may stay until it is the last, where a search begins.
     pub fn prune(&mut self, layout: &Layout, standing: &Standing, what: &What)
         ensures { (entries : ℕ) (frames : List Frame) → Agrees entries frames standing.now →
             Ranks layout.now frames standing.now self.old →

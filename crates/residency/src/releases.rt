@@ -42,7 +42,7 @@ pub fn after(moment: Option<u64>) -> u64
 
 /// Puts the page in order, unless it surely is one of these pages.
 fn order_but(
-    order: &mut BTreeSet<(u64, Reverse<u32>)>,
+    order: &mut BTreeSet<(Reverse<u64>, u32)>,
     named: &[u64],
     pages: &[u32],
     page: u32,
@@ -59,8 +59,8 @@ fn order_but(
 
 /// Puts the parked pages that this moment doesn't cover in order, but for these pages.
 fn sweep(
-    order: &mut BTreeSet<(u64, Reverse<u32>)>,
-    parked: &BTreeSet<(u64, Reverse<u32>)>,
+    order: &mut BTreeSet<(Reverse<u64>, u32)>,
+    parked: &BTreeSet<(Reverse<u64>, u32)>,
     named: &[u64],
     moment: Option<u64>,
     pages: &[u32],
@@ -71,8 +71,8 @@ fn sweep(
         list_any (nat_eq page) pages.now ≡ false →
         ranks order.new (slice_index_or named.now page 0) page ≡ true) }
 {
-    for place in parked.range((after(moment), Reverse(u32::MAX))..) {
-        let (_, Reverse(page)) = *place;
+    for place in parked.range(..=(Reverse(after(moment)), u32::MAX)) {
+        let (_, page) = *place;
         order_but(order, named, pages, page)?;
     }
     Ok(())

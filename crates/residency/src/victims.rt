@@ -56,8 +56,10 @@ pub fn victim_for(layout: &Layout, account: &Account, page: u32) -> Option<u32>
         result ≡ victim_for layout.now (shown account.now.standing frames) page }
 {
     let start = after(account.standing.frames.last_moment());
-    for place in account.leaves.order.range((start, Reverse(u32::MAX))..) {
-        let (count, Reverse(candidate)) = *place;
+    // The last place is that of the page named least recently.
+    let places = account.leaves.order.range(..=(Reverse(start), u32::MAX));
+    for place in places.rev() {
+        let (Reverse(count), candidate) = *place;
         if fits(layout, account, page, count, candidate) {
             return Some(candidate);
         }

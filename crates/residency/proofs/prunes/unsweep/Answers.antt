@@ -25,6 +25,6 @@ loop-place-preserved c =
       ranked = λ layout entries frames leaves same parked agrees ranked.
           let place = c.in-Some.place.now in
           let was : Leaves = record leaves { order = c.loop-place.order } in
-          c.unorder.ensures layout entries frames was refl (rw parked (sofar.inside place.0 place.1.0 (stands-first c.loop-place.place-iterator c.next.new.self place rest))) agrees (sofar.ranked layout entries frames leaves same parked agrees ranked);
+          c.unorder.ensures layout entries frames was refl (rw parked (sofar.inside place.0.0 place.1 (stands-first c.loop-place.place-iterator c.next.new.self place rest))) agrees (sofar.ranked layout entries frames leaves same parked agrees ranked);
       inside = λ count page h. sofar.inside count page (stands-later c.loop-place.place-iterator c.next.new.self c.in-Some.place.now count page rest h);
     }

@@ -1,6 +1,5 @@
-use Rattle.std.proofs.Common.{ap, sym, ◌∙◌}
+use Rattle.std.proofs.Common.{ap, reverse, sym, ◌∙◌}
 use Rattle.std.proofs.lemmas.List.Kept.{IsStrictlySortedBy-filter}
-use Rattle.std.proofs.lemmas.Map.Iter.{rest_more, rest_all}
 use Rattle.std.specs.BTreeMap.Range.{range_contains}
 use Rattle.std.specs.BTreeSet.{keys_between}
 use Rattle.std.specs.List.{find}
@@ -8,38 +7,38 @@ use Rattle.std.specs.Map.Iter.{deref}
 use Rattle.std.specs.declared.ops.Bound.TheVariants.{Included, Unbounded}
 use Rattle.residency.specs.Leaf.{fits, rank_cmp}
 use Rattle.residency.specs.Shown.{shown}
-use Rattle.residency.proofs.Foremost.{HasEvictable-from, find-later, find-here, find-end, victim-found, victim-none}
-use Rattle.residency.proofs.Leafing.{start_at}
+use Rattle.residency.proofs.Foremost.{HasEvictable-from, find-later, find-here, find-end, last-more, last-all, reverse-last, victim-found, victim-none}
+use Rattle.residency.proofs.Leafing.{end_at}
 use Rattle.residency.proofs.victims.victim_for.Goals as goal
 
 pub loop-place-init : goal.loop-place-init
 loop-place-init c = λ entries frames agrees ranks.
-    let all = c.into_iter-place-iterator.ensures.into_iter_gives ∙ c.range-place-items.ensures.between tt in
-    ap (find (fits c.args.layout.now (shown c.args.account.now.standing frames) c.args.page)) all
+    let all = ap (λ i. i.iter) c.into_iter-place-iterator.ensures.into_iter_gives ∙ (c.rev-place-items.ensures.source ∙ c.range-places.ensures.between tt) in
+    ap (λ places. find (fits c.args.layout.now (shown c.args.account.now.standing frames) c.args.page) (reverse places)) all
 
 pub loop-place-preserved : goal.loop-place-preserved
 loop-place-preserved c = λ entries frames agrees ranks.
     let s = shown c.args.account.now.standing frames in
-    let rest = rest_more deref _ _ _ _ c.in-Some.is c.next.ensures.steps in
-    find-later (fits c.args.layout.now s c.args.page) c.loop-place.place-iterator c.next.new.self _ _ rest (sym (c.fits.ensures entries frames agrees ranks) ∙ c.if-fits.false) (c.loop-place.invariant entries frames agrees ranks)
+    let rest = reverse-last _ _ _ (last-more deref c.loop-place.place-iterator.iter c.next.new.self.iter _ _ c.in-Some.is c.next.ensures.steps) in
+    find-later (fits c.args.layout.now s c.args.page) (reverse c.loop-place.place-iterator.iter) (reverse c.next.new.self.iter) _ _ rest (sym (c.fits.ensures entries frames agrees ranks) ∙ c.if-fits.false) (c.loop-place.invariant entries frames agrees ranks)
 
 pub returns-then-fits : goal.returns-then-fits
 returns-then-fits c = λ entries frames agrees ranks.
     let x = c.args.account.now.standing in
     let s = shown x frames in
     let order = c.args.account.now.leaves.order in
-    let places = keys_between rank_cmp (Included (start_at c.after-start.result)) Unbounded order in
-    let rest = rest_more deref _ _ _ _ c.in-Some.is c.next.ensures.steps in
+    let places = keys_between rank_cmp Unbounded (Included (end_at c.after-start.result)) order in
+    let rest = reverse-last _ _ _ (last-more deref c.loop-place.place-iterator.iter c.next.new.self.iter _ _ c.in-Some.is c.next.ensures.steps) in
     let has = HasEvictable-from entries c.args.layout.now frames x c.args.account.now.leaves c.args.page c.after-start.result c.last_moment.result agrees ranks c.last_moment.ensures c.after-start.ensures in
-    victim-found c.args.layout.now s c.args.page places _ ranks.places.flag_a_page (IsStrictlySortedBy-filter rank_cmp (range_contains rank_cmp (Included (start_at c.after-start.result)) Unbounded) order.keys c.range-place-items.ensures.ordered) has
-    (find-here (fits c.args.layout.now s c.args.page) c.loop-place.place-iterator c.next.new.self places _ rest (sym (c.if-fits.ensures entries frames agrees ranks)) (c.loop-place.invariant entries frames agrees ranks))
+    victim-found c.args.layout.now s c.args.page places _ ranks.places.flag_a_page (IsStrictlySortedBy-filter rank_cmp (range_contains rank_cmp Unbounded (Included (end_at c.after-start.result))) order.keys c.range-places.ensures.ordered) has
+    (find-here (fits c.args.layout.now s c.args.page) (reverse c.loop-place.place-iterator.iter) (reverse c.next.new.self.iter) (reverse places) _ rest (sym (c.if-fits.ensures entries frames agrees ranks)) (c.loop-place.invariant entries frames agrees ranks))
 
 pub returns : goal.returns
 returns c = λ entries frames agrees ranks.
     let x = c.args.account.now.standing in
     let s = shown x frames in
-    let places = keys_between rank_cmp (Included (start_at c.after-start.result)) Unbounded c.args.account.now.leaves.order in
-    let rest = rest_all deref _ _ _ c.in-None.is c.next.ensures.steps in
+    let places = keys_between rank_cmp Unbounded (Included (end_at c.after-start.result)) c.args.account.now.leaves.order in
+    let rest = ap reverse (last-all deref c.loop-place.place-iterator.iter c.next.new.self.iter _ c.in-None.is c.next.ensures.steps) in
     let has = HasEvictable-from entries c.args.layout.now frames x c.args.account.now.leaves c.args.page c.after-start.result c.last_moment.result agrees ranks c.last_moment.ensures c.after-start.ensures in
     victim-none c.args.layout.now s c.args.page places has
-    (find-end (fits c.args.layout.now s c.args.page) c.loop-place.place-iterator places rest (c.loop-place.invariant entries frames agrees ranks))
+    (find-end (fits c.args.layout.now s c.args.page) (reverse c.loop-place.place-iterator.iter) (reverse places) rest (c.loop-place.invariant entries frames agrees ranks))

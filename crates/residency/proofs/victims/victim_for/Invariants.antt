@@ -1,4 +1,4 @@
-use Rattle.std.proofs.Common.{◌≡◌, ℕ, List}
+use Rattle.std.proofs.Common.{◌≡◌, ℕ, List, reverse}
 use Rattle.std.specs.BTreeSet.{keys_between}
 use Rattle.std.specs.List.{find}
 use Rattle.std.specs.declared.ops.Bound.TheVariants.{Included, Unbounded}
@@ -7,12 +7,12 @@ use Rattle.residency.specs.Frame.{Frame}
 use Rattle.residency.specs.Leaf.{fits, rank_cmp}
 use Rattle.residency.specs.Parking.{Ranks}
 use Rattle.residency.specs.Shown.{shown}
-use Rattle.residency.proofs.Leafing.{start_at}
+use Rattle.residency.proofs.Leafing.{end_at}
 use Rattle.residency.proofs.victims.victim_for.Given as goal
 
--- the first that fits of the places left is the first of all
+-- the first that fits of the places left, from the last on, is the first of all
 abbrev pub invariant-loop-place : goal.invariant-loop-place
 invariant-loop-place l =
     (entries : ℕ) (frames : List Frame) → Agrees entries frames l.account.standing → Ranks l.layout frames l.account.standing l.account.leaves
-    → find (fits l.layout (shown l.account.standing frames) l.page) l.place-iterator
-    ≡ find (fits l.layout (shown l.account.standing frames) l.page) (keys_between rank_cmp (Included (start_at l.start)) Unbounded l.account.leaves.order)
+    → find (fits l.layout (shown l.account.standing frames) l.page) (reverse l.place-iterator.iter)
+    ≡ find (fits l.layout (shown l.account.standing frames) l.page) (reverse (keys_between rank_cmp Unbounded (Included (end_at l.start)) l.account.leaves.order))

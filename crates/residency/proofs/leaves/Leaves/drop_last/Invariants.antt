@@ -3,7 +3,7 @@ use Rattle.residency.specs.Agreement.{Agrees}
 use Rattle.journal.specs.declared.layouts.Layout.{Layout}
 use Rattle.residency.specs.Frame.{Frame}
 use Rattle.residency.specs.Parking.{Ranks}
-use Rattle.residency.proofs.leaves.Leaves.drop_first.Given as goal
+use Rattle.residency.proofs.leaves.Leaves.drop_last.Given as goal
 
 -- what is kept stays right
 abbrev pub invariant-loop : goal.invariant-loop
