@@ -9,6 +9,7 @@ use Rattle.journal.specs.declared.layouts.Layout.{Layout}
 use Rattle.residency.specs.declared.nexts.Next.TheVariants as Next
 use Rattle.residency.specs.Next.{next_after}
 use Rattle.residency.specs.State.{residency}
+use Rattle.residency.specs.Row.{ends_from, rows_of}
 use Rattle.residency.specs.Rules.{first_refused}
 
 abbrev entry : ℕ → What → Entry
@@ -129,3 +130,10 @@ next_nothing = refl
 -- the residency, ascending
 pub residency_shared : residency shared loaded_shared ≡ 0 ∷ 1 ∷ 2 ∷ []
 residency_shared = refl
+
+-- the uppers of `crowded` in one list: those of page 2 stand behind those of page 1
+pub rows_of_crowded : rows_of (0 ∷ 1 ∷ 3 ∷ 4 ∷ 5 ∷ 6 ∷ []) (0 ∷ 0 ∷ 1 ∷ 0 ∷ 0 ∷ 0 ∷ []) ≡ crowded.uppers
+rows_of_crowded = refl
+
+pub ends_from_crowded : ends_from 0 crowded.uppers ≡ 0 ∷ 1 ∷ 3 ∷ 4 ∷ 5 ∷ 6 ∷ []
+ends_from_crowded = refl

@@ -12,6 +12,7 @@ pub mod Foremost
 pub mod Held
 pub mod Indexes
 pub mod Kept
+pub mod Laid
 pub mod Leafing
 pub mod LegalJournals
 pub mod NextAnswers

@@ -1,5 +1,5 @@
 -- What every pool keeps.
-use Rattle.std.specs.Prelude.{List, length}
+use Rattle.std.specs.Prelude.{◌≡◌, List, length}
 use Rattle.residency.specs.Agreement.{Stands}
 use Rattle.residency.specs.declared.accounts.Account.{Account}
 use Rattle.journal.specs.declared.entries.Entry.{Entry}
@@ -28,7 +28,9 @@ pub record Keeps (layout : Layout) (journal : List Entry) (account : Account) : 
   -- the tickets of wants whose page can be taken or is being loaded stand where they are looked for
   pub offers : AreOffered layout (state_of layout journal) account.standing.wants.queue account.offers
 
-pub record IsKept (layout : Layout) (journal : List Entry) (account : Account) : Type 0 where
+pub record IsKept (layout plan : Layout) (journal : List Entry) (account : Account) : Type 0 where
+  -- the plan is of the layout
+  pub planned : plan ≡ layout
   -- the layout is within its bounds
   pub bounded : InBounds layout
   -- each entry was allowed

@@ -10,6 +10,7 @@ pub mod Offer
 pub mod Queue
 pub mod Parking
 pub mod Recalled
+pub mod Row
 pub mod Rules
 pub mod Shown
 pub mod Sound

@@ -13,9 +13,10 @@ ghost use Rattle.residency.specs.State.{opening, state_of};
 
 use crate::leaves::Leaves;
 use crate::offers::Offers;
+use crate::plans::Plan;
 use crate::recalls::Recall;
 use crate::standings::Standing;
-use crate::{Entry, Layout, What};
+use crate::{Entry, What};
 use geom_core::Memory;
 use std::alloc::Global;
 
@@ -59,7 +60,7 @@ impl Account {
     ghost use Rattle.residency.specs.Kept.{IsAt, Keeps};
 
     /// Of a journal without entries.
-    pub fn opening(alloc: Global, layout: &Layout) -> Result<Account, Memory>
+    pub fn opening(alloc: Global, layout: &Plan) -> Result<Account, Memory>
         ensures stands { IfOk result (λ account. Stands 0 account.standing (opening layout.now)) }
         ensures recalls { IfOk result (λ account. Recalls [] account.recall) }
         ensures ranks { InBounds layout.now →
@@ -80,7 +81,7 @@ impl Account {
     fn change(
         &mut self,
         alloc: Global,
-        layout: &Layout,
+        layout: &Plan,
         entry: &Entry,
         tickets: &[(u64, u32)],
     ) -> Result<(), Memory>
@@ -106,7 +107,7 @@ impl Account {
     }
 
     /// Enters an entry. After Memory all stands as before.
-    pub fn enter(&mut self, alloc: Global, layout: &Layout, entry: &Entry) -> Result<(), Memory>
+    pub fn enter(&mut self, alloc: Global, layout: &Plan, entry: &Entry) -> Result<(), Memory>
         requires { self.old.standing.entries < 2 ^ 64 - 1 }
         ensures ok { (journal : List Entry) →
             Keeps layout.now journal self.old → InBounds layout.now → IsLegal layout.now journal →

@@ -10,9 +10,10 @@ ghost use Rattle.residency.specs.Sound.{IsSound};
 ghost use Rattle.residency.specs.State.{State, changed, is_held, opening};
 ghost use Rattle.residency.specs.Victim.{is_stood_on};
 
+use crate::What;
 use crate::arrays::{count_at, lower, raise, zeros};
+use crate::plans::Plan;
 use crate::standings::Standing;
-use crate::{Layout, What};
 use geom_core::Memory;
 use std::alloc::Global;
 use std::cmp::Reverse;
@@ -88,17 +89,17 @@ fn lower_all(counts: &mut [u64], pages: &[u32])
 
 impl Leaves {
     /// Before any entry: the root pages are resident.
-    pub fn opening(alloc: Global, layout: &Layout) -> Result<Leaves, Memory>
+    pub fn opening(alloc: Global, layout: &Plan) -> Result<Leaves, Memory>
         ensures lowers { InBounds layout.now →
             IfOk result (λ leaves. CountsLowers layout.now (is_held (opening layout.now))
             leaves.lowers.items) }
     {
         let mut leaves = Leaves {
-            lowers: zeros(alloc, layout.pages)?,
+            lowers: zeros(alloc, layout.pages())?,
             order: BTreeSet::new(alloc),
             parked: BTreeSet::new(alloc),
         };
-        for root in 0..layout.roots {
+        for root in 0..layout.roots() {
             leaves.begin(layout, root);
         }
         Ok(leaves)
@@ -114,7 +115,7 @@ impl Leaves {
     }
 
     /// Whether the page is resident and no root page, and no resident or loading page stands on it.
-    pub fn is_leaf(&self, layout: &Layout, standing: &Standing, page: u32) -> bool
+    pub fn is_leaf(&self, layout: &Plan, standing: &Standing, page: u32) -> bool
         ensures { (frames : List Frame) →
             CountsLowers layout.now (is_held (shown standing.now frames)) self.now.lowers.items →
             length standing.now.places.resident.items ≡ layout.now.pages →
@@ -123,11 +124,11 @@ impl Leaves {
         if !standing.is_resident(page) {
             return false;
         }
-        page >= layout.roots && !self.is_stood_on(page)
+        page >= layout.roots() && !self.is_stood_on(page)
     }
 
     /// Counts a page that is resident or being loaded from now on at each of its uppers.
-    fn begin(&mut self, layout: &Layout, page: u32)
+    fn begin(&mut self, layout: &Plan, page: u32)
         ensures lowers { (held held' : ℕ → Bool) → InBounds layout.now →
             Begins layout.now held held' page → CountsLowers layout.now held self.old.lowers.items →
             CountsLowers layout.now held' self.new.lowers.items }
@@ -138,7 +139,7 @@ impl Leaves {
     }
 
     /// Counts a page that was resident or being loaded until now no more at its uppers.
-    fn end(&mut self, layout: &Layout, page: u32)
+    fn end(&mut self, layout: &Plan, page: u32)
         ensures lowers { (held held' : ℕ → Bool) → InBounds layout.now →
             Begins layout.now held' held page → CountsLowers layout.now held self.old.lowers.items →
             CountsLowers layout.now held' self.new.lowers.items }
@@ -149,7 +150,7 @@ impl Leaves {
     }
 
     /// Counts as the pages are that are resident or being loaded after the entry.
-    pub fn follow(&mut self, layout: &Layout, what: &What)
+    pub fn follow(&mut self, layout: &Plan, what: &What)
         ensures lowers { (s : State) (journal : List Entry) (by : ℕ) → InBounds layout.now →
             IsSound layout.now s → allows layout.now s journal by what.now ≡ true →
             CountsLowers layout.now (is_held s) self.old.lowers.items →

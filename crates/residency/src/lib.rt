@@ -21,12 +21,14 @@ mod offer_tests;
 mod offers;
 mod pages;
 mod places;
+mod plans;
 #[cfg(test)]
 mod pool_tests;
 mod pools;
 mod prunes;
 mod recalls;
 mod releases;
+mod rows;
 mod rules;
 mod standings;
 mod victims;

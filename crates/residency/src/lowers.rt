@@ -3,7 +3,7 @@ ghost use Rattle.journal.specs.Layout.{InBounds, is_upper};
 ghost use Rattle.residency.specs.Lower.{HasLowers, IsByUpper, has_pair, pairs_of};
 ghost use Rattle.journal.specs.declared.layouts.Layout.{Layout};
 
-use crate::Layout;
+use crate::plans::Plan;
 use geom_core::Memory;
 use std::alloc::Global;
 
@@ -29,12 +29,12 @@ fn add_pairs(
 }
 
 /// Each upper of each page, and the page.
-fn all_pairs(alloc: Global, layout: &Layout) -> Result<Vec<(u32, u32)>, Memory>
+fn all_pairs(alloc: Global, layout: &Plan) -> Result<Vec<(u32, u32)>, Memory>
     ensures { IfOk result (λ pairs. (upper : ℕ) (lower : ℕ) → lower < layout.now.pages →
         is_upper layout.now upper lower ≡ true → has_pair pairs.items upper lower ≡ true) }
 {
     let mut pairs = Vec::new(alloc);
-    for page in 0..layout.pages {
+    for page in 0..layout.pages() {
         pairs = add_pairs(pairs, layout.uppers_of(page), page)?;
     }
     Ok(pairs)
@@ -68,7 +68,7 @@ fn pairs_up_to(pairs: &[(u32, u32)], upper: u32) -> &[(u32, u32)]
 
 impl Lowers {
     /// The lowers of the pages of a layout.
-    pub fn of(alloc: Global, layout: &Layout) -> Result<Lowers, Memory>
+    pub fn of(alloc: Global, layout: &Plan) -> Result<Lowers, Memory>
         ensures { InBounds layout.now → IfOk result (HasLowers layout.now) }
     {
         let mut pairs = all_pairs(alloc, layout)?;

@@ -10,8 +10,8 @@ ghost use Rattle.std.specs.BTreeMap.Range.{IsLeBy, IsLtBy};
 ghost use Rattle.std.specs.Range.Bound.{IsForward};
 ghost use Rattle.residency.specs.Next.{is_want_for, can_take, is_takeable, first_takeable, is_busy, first_loading, next_at, next_without, next_in};
 
-use crate::Layout;
 use crate::accounts::Account;
+use crate::plans::Plan;
 use crate::standings::Standing;
 use crate::victims::victim_for;
 use crate::wants::{Want, Wants};
@@ -52,14 +52,14 @@ fn is_want_for(frame: Option<u32>, want: &Want) -> bool
 }
 
 /// Whether the page can be taken: it is neither resident nor being loaded, and its uppers are resident.
-pub fn can_take(layout: &Layout, standing: &Standing, page: u32) -> bool
+pub fn can_take(layout: &Plan, standing: &Standing, page: u32) -> bool
     ensures { result ≡ can_take layout.now (shown standing.now []) page }
 {
     !standing.is_held(page) && standing.all_resident(layout.uppers_of(page))
 }
 
 /// Whether it is a want for the frame, or for any, and its page can be taken.
-fn is_takeable(layout: &Layout, standing: &Standing, frame: Option<u32>, want: &Want) -> bool
+fn is_takeable(layout: &Plan, standing: &Standing, frame: Option<u32>, want: &Want) -> bool
     ensures { result ≡ is_takeable layout.now (shown standing.now []) frame want.now }
 {
     is_want_for(frame, want) && can_take(layout, standing, want.page)
@@ -85,7 +85,7 @@ fn span_of(wants: &Wants, frame: Option<u32>) -> (Bound<(u64, u32)>, Bound<(u64,
 
 /// The want at the ticket, where it is for the frame, or for any, and its page can be taken.
 fn takeable_at(
-    layout: &Layout,
+    layout: &Plan,
     standing: &Standing,
     frame: Option<u32>,
     ticket: &(u64, u32),
@@ -105,7 +105,7 @@ fn takeable_at(
 }
 
 /// The first want whose page can be taken.
-fn first_takeable(layout: &Layout, account: &Account, frame: Option<u32>) -> Option<Want>
+fn first_takeable(layout: &Plan, account: &Account, frame: Option<u32>) -> Option<Want>
     ensures { (entries : ℕ) (frames : List Frame) → Agrees entries frames account.now.standing →
         AreOffered layout.now (shown account.now.standing frames) account.now.standing.wants.queue
         account.now.offers →
@@ -165,12 +165,12 @@ fn first_loading(account: &Account, frame: u32) -> Option<Want>
 }
 
 /// What becomes of a page that can be taken: it goes into a free slot or for a victim, or nowhere.
-fn next_at(layout: &Layout, account: &Account, page: u32) -> Next
+fn next_at(layout: &Plan, account: &Account, page: u32) -> Next
     ensures { (entries : ℕ) (frames : List Frame) → Agrees entries frames account.now.standing →
         Ranks layout.now frames account.now.standing account.now.leaves →
         result ≡ next_at layout.now (shown account.now.standing frames) page }
 {
-    if account.standing.held_count() < u64::from(layout.slots) {
+    if account.standing.held_count() < u64::from(layout.slots()) {
         return Next::Take { page, victim: None };
     }
     match victim_for(layout, account, page) {
@@ -200,7 +200,7 @@ fn next_without(account: &Account, frame: Option<u32>) -> Next
 }
 
 /// What a loader may do next for the frame, or for all frames.
-pub fn next_in(layout: &Layout, account: &Account, frame: Option<u32>) -> Next
+pub fn next_in(layout: &Plan, account: &Account, frame: Option<u32>) -> Next
     ensures { (entries : ℕ) (frames : List Frame) → Agrees entries frames account.now.standing →
         Ranks layout.now frames account.now.standing account.now.leaves →
         AreOffered layout.now (shown account.now.standing frames) account.now.standing.wants.queue

@@ -1,6 +1,7 @@
 use crate::accounts::Account;
+use crate::plans::Plan;
 use crate::rules::allows;
-use crate::{Entry, Layout, read_journal};
+use crate::{Entry, read_journal};
 use geom_core::Memory;
 use std::alloc::Global;
 use std::test::Fail;
@@ -49,7 +50,7 @@ fn counts(account: &Account) -> (usize, usize) {
 /// the refusal left other counts than before.
 fn counts_after(
     alloc: Global,
-    layout: &Layout,
+    layout: &Plan,
     account: &mut Account,
     entry: &Entry,
 ) -> Result<Option<(usize, usize)>, Memory> {
@@ -71,12 +72,14 @@ fn tickets_that_do_not_belong_go(rt: HostRuntime) -> Result<(), Fail> {
     let Ok(journal) = read_journal(rt.alloc(), TEXT.as_bytes()) else {
         return Err("no journal".into());
     };
-    let layout = &journal.layout;
-    let Ok(mut account) = Account::opening(rt.alloc(), layout) else {
+    let Ok(layout) = Plan::of(rt.alloc(), &journal.layout) else {
+        return Err("no plan".into());
+    };
+    let Ok(mut account) = Account::opening(rt.alloc(), &layout) else {
         return Err("no account".into());
     };
     for (place, entry) in journal.entries.as_slice().iter().enumerate() {
-        let counts = counts_after(rt.alloc(), layout, &mut account, entry);
+        let counts = counts_after(rt.alloc(), &layout, &mut account, entry);
         let Ok(counts) = counts else {
             return Err("no memory".into());
         };

@@ -11,11 +11,12 @@ ghost use Rattle.residency.specs.State.{State, is_loading};
 ghost use Rattle.journal.specs.declared.layouts.Layout.{Layout};
 ghost use Rattle.residency.specs.declared.wants.Want.{Want};
 
+use crate::What;
 use crate::lowers::Lowers;
 use crate::nexts::can_take;
+use crate::plans::Plan;
 use crate::standings::Standing;
 use crate::wants::Wants;
-use crate::{Layout, What};
 use geom_core::Memory;
 use std::alloc::Global;
 use std::collections::BTreeSet;
@@ -124,12 +125,7 @@ fn add_tickets_of_lowers(
 }
 
 /// Whether the page can be taken, where the last page that was tested is told with its answer.
-fn can_take_again(
-    layout: &Layout,
-    standing: &Standing,
-    last: Option<(u32, bool)>,
-    page: u32,
-) -> bool
+fn can_take_again(layout: &Plan, standing: &Standing, last: Option<(u32, bool)>, page: u32) -> bool
     ensures { IfSome last (λ known. known.1 ≡ can_take layout.now (shown standing.now []) known.0) →
         result ≡ can_take layout.now (shown standing.now []) page }
 {
@@ -141,7 +137,7 @@ fn can_take_again(
 
 impl Offers {
     /// Of a pool without wants.
-    pub fn opening(alloc: Global, layout: &Layout) -> Result<Offers, Memory>
+    pub fn opening(alloc: Global, layout: &Plan) -> Result<Offers, Memory>
         ensures { InBounds layout.now → IfOk result (λ offers. HasLowers layout.now offers.lowers) }
     {
         Ok(Offers {
@@ -204,7 +200,7 @@ impl Offers {
 
     /// Puts the ticket of the page at this count of entries where it belongs. After Memory it may
     /// stand there.
-    fn offer_page(&mut self, layout: &Layout, standing: &Standing, page: u32) -> Result<(), Memory>
+    fn offer_page(&mut self, layout: &Plan, standing: &Standing, page: u32) -> Result<(), Memory>
         ensures lowers { self.new.lowers ≡ self.old.lowers }
         ensures takeable { IsWider self.old.takeable self.new.takeable }
         ensures loading { IsWider self.old.loading self.new.loading }
@@ -222,7 +218,7 @@ impl Offers {
     /// may stand there.
     fn offer_pages(
         &mut self,
-        layout: &Layout,
+        layout: &Plan,
         standing: &Standing,
         pages: &[u32],
     ) -> Result<(), Memory>
@@ -244,7 +240,7 @@ impl Offers {
     /// become. After Memory some may stand there.
     pub fn offer(
         &mut self,
-        layout: &Layout,
+        layout: &Plan,
         standing: &Standing,
         what: &What,
         tickets: &[(u64, u32)],
@@ -274,7 +270,7 @@ impl Offers {
 
     /// Removes those of the tickets from among those whose page can be taken whose page can't be. Of
     /// the tickets of a page that stand beside each other, the page is tested once.
-    fn prune_takeable(&mut self, layout: &Layout, standing: &Standing, tickets: &[(u64, u32)])
+    fn prune_takeable(&mut self, layout: &Plan, standing: &Standing, tickets: &[(u64, u32)])
         ensures { (entries : ℕ) (frames : List Frame) → IsQueued entries standing.now.wants →
             AreOffered layout.now (shown standing.now frames) standing.now.wants.queue self.old →
             AreOffered layout.now (shown standing.now frames) standing.now.wants.queue self.new }
@@ -340,7 +336,7 @@ impl Offers {
     /// Removes what was put in for an entry that wasn't entered for want of memory.
     pub fn withdraw(
         &mut self,
-        layout: &Layout,
+        layout: &Plan,
         standing: &Standing,
         what: &What,
         tickets: &[(u64, u32)],
@@ -360,13 +356,7 @@ impl Offers {
 
     /// After an entry, removes the tickets that stand among others than their own, and those of the
     /// wants that the entry took out.
-    pub fn prune(
-        &mut self,
-        layout: &Layout,
-        standing: &Standing,
-        what: &What,
-        tickets: &[(u64, u32)],
-    )
+    pub fn prune(&mut self, layout: &Plan, standing: &Standing, what: &What, tickets: &[(u64, u32)])
         ensures { (entries : ℕ) (frames : List Frame) → IsQueued entries standing.now.wants →
             AreOffered layout.now (shown standing.now frames) standing.now.wants.queue self.old →
             AreOffered layout.now (shown standing.now frames) standing.now.wants.queue self.new }

@@ -1,12 +1,12 @@
 ghost use Rattle.std.specs.Prelude.{◌≡◌};
 ghost use Rattle.residency.specs.Rules.{is_page_list};
 
-use crate::Layout;
+use crate::plans::Plan;
 use journal::{all_below, ascends};
 
 /// Whether the pages ascend, each below the number of pages.
-pub fn is_page_list(layout: &Layout, pages: &[u32]) -> bool
+pub fn is_page_list(layout: &Plan, pages: &[u32]) -> bool
     ensures { result ≡ is_page_list layout.now pages.now }
 {
-    ascends(pages) && all_below(layout.pages, pages)
+    ascends(pages) && all_below(layout.pages(), pages)
 }

@@ -2,8 +2,8 @@ ghost use Rattle.std.specs.Prelude.{◌≡◌, IfOk, count_by, false, None, map,
 ghost use Rattle.residency.specs.Holding.{IsCounted, recounted};
 ghost use Rattle.journal.specs.Layout.{page_numbers};
 
-use crate::Layout;
 use crate::arrays::write;
+use crate::plans::Plan;
 use geom_core::Memory;
 use std::alloc::Global;
 
@@ -19,12 +19,12 @@ pub struct Places {
 }
 
 /// The marks of the root pages.
-fn root_marks(alloc: Global, layout: &Layout) -> Result<Vec<bool>, Memory>
+fn root_marks(alloc: Global, layout: &Plan) -> Result<Vec<bool>, Memory>
     ensures { IfOk result (λ marks. marks.items
         ≡ map (λ page. nat_lt page layout.now.roots) (page_numbers layout.now)) }
 {
-    let roots = layout.roots;
-    Ok((0..layout.pages).map(|page| page < roots).collect(alloc)?)
+    let roots = layout.roots();
+    Ok((0..layout.pages()).map(|page| page < roots).collect(alloc)?)
 }
 
 /// No maker for each of the pages.
@@ -54,7 +54,7 @@ fn recount(held: u64, was: bool, is: bool) -> u64
 
 impl Places {
     /// Before any entry: the root pages are resident.
-    pub fn opening(alloc: Global, layout: &Layout) -> Result<Places, Memory>
+    pub fn opening(alloc: Global, layout: &Plan) -> Result<Places, Memory>
         ensures resident { IfOk result (λ places. places.resident.items
             ≡ map (λ page. nat_lt page layout.now.roots) (page_numbers layout.now)) }
         ensures loading { IfOk result (λ places. places.loading.items
@@ -62,7 +62,7 @@ impl Places {
         ensures counted { IfOk result IsCounted }
     {
         let resident = root_marks(alloc, layout)?;
-        let loading = unloaded(alloc, layout.pages)?;
+        let loading = unloaded(alloc, layout.pages())?;
         let held = marked(&resident);
         Ok(Places {
             resident,

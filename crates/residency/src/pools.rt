@@ -10,6 +10,7 @@ ghost use Rattle.residency.specs.Victim.{victim_after};
 
 use crate::accounts::Account;
 use crate::nexts::next_in;
+use crate::plans::Plan;
 use crate::rules::allows;
 use crate::victims::victim_for;
 use crate::{Entry, Layout, Next};
@@ -67,6 +68,8 @@ impl From<Memory> for ReplayFault {
 #[derive(Debug, Drop)]
 pub struct Pool {
     layout: Layout,
+    /// The layout, as the machine reads it.
+    plan: Plan,
     journal: Vec<Entry>,
     account: Account,
 }
@@ -80,7 +83,7 @@ impl Model for Pool {
 
     ghost view = { λ pool. record { layout = pool.layout; journal = pool.journal.items } };
 
-    ghost invariant = { λ pool. IsKept pool.layout pool.journal.items pool.account };
+    ghost invariant = { λ pool. IsKept pool.layout pool.plan pool.journal.items pool.account };
 }
 
 /// Puts the entry behind the others, for which there is room.
@@ -95,7 +98,7 @@ fn add(journal: &mut Vec<Entry>, entry: Entry)
 }
 
 /// What is kept of these entries, where each is allowed.
-fn account_of(alloc: Global, layout: &Layout, entries: &[Entry]) -> Result<Account, ReplayFault>
+fn account_of(alloc: Global, layout: &Plan, entries: &[Entry]) -> Result<Account, ReplayFault>
     requires bounded { InBounds layout.now }
     requires few { length entries.now < 2 ^ 64 - 1 }
 
@@ -122,9 +125,11 @@ impl Pool {
         requires { InBounds layout }
         ensures { IfOk result (λ pool. pool ≡ begun layout) }
     {
-        let account = Account::opening(alloc, &layout)?;
+        let plan = Plan::of(alloc, &layout)?;
+        let account = Account::opening(alloc, &plan)?;
         Ok(Pool {
             layout,
+            plan,
             journal: Vec::new(alloc),
             account,
         })
@@ -140,9 +145,11 @@ impl Pool {
         ensures illegal { (place : ℕ) → result ≡ Err (ReplayFault.Illegal place) →
             first_refused layout entries.items ≡ Some place }
     {
-        let account = account_of(alloc, &layout, &entries)?;
+        let plan = Plan::of(alloc, &layout)?;
+        let account = account_of(alloc, &plan, &entries)?;
         Ok(Pool {
             layout,
+            plan,
             journal: entries,
             account,
         })
@@ -158,11 +165,11 @@ impl Pool {
 
         ensures unchanged { OnErr result (self.new ≡ self.old) }
     {
-        if !allows(&self.layout, &self.account, &entry) {
+        if !allows(&self.plan, &self.account, &entry) {
             return Err(StepFault::Illegal);
         }
         reserve_one(&mut self.journal)?;
-        self.account.enter(alloc, &self.layout, &entry)?;
+        self.account.enter(alloc, &self.plan, &entry)?;
         add(&mut self.journal, entry);
         Ok(())
     }
@@ -171,7 +178,7 @@ impl Pool {
     pub fn next_for(&self, frame: Option<u32>) -> Next
         ensures { result ≡ next_after self.now.layout self.now.journal frame }
     {
-        next_in(&self.layout, &self.account, frame)
+        next_in(&self.plan, &self.account, frame)
     }
 
     /// The page that would be evicted for this one: of those that may be, the one named least recently,
@@ -180,7 +187,7 @@ impl Pool {
         requires { page < self.now.layout.pages }
         ensures { result ≡ victim_after self.now.layout self.now.journal page }
     {
-        victim_for(&self.layout, &self.account, page)
+        victim_for(&self.plan, &self.account, page)
     }
 
     /// Whether the page is resident.
@@ -194,7 +201,7 @@ impl Pool {
     pub fn residency(&self, alloc: Global) -> Result<Nums, Memory>
         ensures { IfOk result (λ pages. pages ≡ residency self.now.layout self.now.journal) }
     {
-        Ok(Nums::of(self.account.standing.residents(alloc, &self.layout)?))
+        Ok(Nums::of(self.account.standing.residents(alloc, &self.plan)?))
     }
 
     /// The layout.

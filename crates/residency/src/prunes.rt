@@ -8,11 +8,12 @@ ghost use Rattle.residency.specs.State.{is_resident};
 ghost use Rattle.residency.specs.declared.leaves.Leaves.{Leaves};
 ghost use Rattle.journal.specs.declared.layouts.Layout.{Layout};
 
+use crate::What;
 use crate::arrays::count_at;
 use crate::leaves::{Leaves, remove, stands};
+use crate::plans::Plan;
 use crate::releases::after;
 use crate::standings::Standing;
-use crate::{Layout, What};
 use std::cmp::Reverse;
 use std::collections::BTreeSet;
 use std::ops::Bound;
@@ -91,12 +92,12 @@ impl Leaves {
     }
 
     /// Lets the page stand in no place but its own. A root page stands nowhere.
-    fn tidy(&mut self, layout: &Layout, standing: &Standing, page: u32)
+    fn tidy(&mut self, layout: &Plan, standing: &Standing, page: u32)
         ensures { (entries : ℕ) (frames : List Frame) → Agrees entries frames standing.now →
             Ranks layout.now frames standing.now self.old →
             Ranks layout.now frames standing.now self.new }
     {
-        if page < layout.roots {
+        if page < layout.roots() {
             return;
         }
         if standing.frames.is_named(page) {
@@ -110,7 +111,7 @@ impl Leaves {
 
     /// Lets each upper of the page stand in no place but its own. One that more than one page stands on,
     /// or that some frame pins by name, stands nowhere.
-    fn tidy_uppers(&mut self, layout: &Layout, standing: &Standing, page: u32)
+    fn tidy_uppers(&mut self, layout: &Plan, standing: &Standing, page: u32)
         ensures { (entries : ℕ) (frames : List Frame) → Agrees entries frames standing.now →
             Ranks layout.now frames standing.now self.old →
             Ranks layout.now frames standing.now self.new }
@@ -258,19 +259,19 @@ impl Leaves {
 
     /// Lets pages that were named again since stand in no place, where there are more than twice as many
     /// places as pages.
-    fn drop_many(&mut self, layout: &Layout, standing: &Standing)
+    fn drop_many(&mut self, layout: &Plan, standing: &Standing)
         ensures { (entries : ℕ) (frames : List Frame) → Agrees entries frames standing.now →
             Ranks layout.now frames standing.now self.old →
             Ranks layout.now frames standing.now self.new }
     {
-        if self.order.len() as u64 > 2 * u64::from(layout.pages) {
+        if self.order.len() as u64 > 2 * u64::from(layout.pages()) {
             self.drop_from(standing, 0);
         }
     }
 
     /// Lets these pages, which were named again, and those that no moment covers be parked no more, and
     /// pages that were named again since stand in none of the last places.
-    fn prune_named(&mut self, layout: &Layout, standing: &Standing, pages: &[u32])
+    fn prune_named(&mut self, layout: &Plan, standing: &Standing, pages: &[u32])
         ensures { (entries : ℕ) (frames : List Frame) → Agrees entries frames standing.now →
             Ranks layout.now frames standing.now self.old →
             Ranks layout.now frames standing.now self.new }
@@ -283,7 +284,7 @@ impl Leaves {
 
     /// Lets the victim, and the uppers of the page that is being loaded, stand in no place but their own,
     /// and pages that were named again since in none of the last places.
-    fn prune_taken(&mut self, layout: &Layout, standing: &Standing, page: u32, victim: Option<u32>)
+    fn prune_taken(&mut self, layout: &Plan, standing: &Standing, page: u32, victim: Option<u32>)
         ensures { (entries : ℕ) (frames : List Frame) → Agrees entries frames standing.now →
             Ranks layout.now frames standing.now self.old →
             Ranks layout.now frames standing.now self.new }
@@ -297,7 +298,7 @@ impl Leaves {
 
     /// After the entry, lets pages stand in no place but their own. A place at which a page stood before
     /// it was named again may stay until it is the last, where a search begins.
-    pub fn prune(&mut self, layout: &Layout, standing: &Standing, what: &What)
+    pub fn prune(&mut self, layout: &Plan, standing: &Standing, what: &What)
         ensures { (entries : ℕ) (frames : List Frame) → Agrees entries frames standing.now →
             Ranks layout.now frames standing.now self.old →
             Ranks layout.now frames standing.now self.new }
@@ -317,7 +318,7 @@ impl Leaves {
     }
 
     /// Lets what the frame pins by name stand nowhere.
-    fn hold_back(&mut self, layout: &Layout, standing: &Standing, frame: u32)
+    fn hold_back(&mut self, layout: &Plan, standing: &Standing, frame: u32)
         ensures { (entries : ℕ) (frames : List Frame) → Agrees entries frames standing.now →
             Ranks layout.now frames standing.now self.old →
             Ranks layout.now frames standing.now self.new }
@@ -331,7 +332,7 @@ impl Leaves {
     }
 
     /// Lets pages stand where they stood before an entry that had no memory.
-    pub fn withdraw(&mut self, layout: &Layout, standing: &Standing, what: &What)
+    pub fn withdraw(&mut self, layout: &Plan, standing: &Standing, what: &What)
         ensures { (entries : ℕ) (frames : List Frame) → Agrees entries frames standing.now →
             Ranks layout.now frames standing.now self.old →
             Ranks layout.now frames standing.now self.new }

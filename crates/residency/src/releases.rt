@@ -15,10 +15,11 @@ ghost use Rattle.residency.specs.Shown.{shown};
 ghost use Rattle.residency.specs.Sound.{IsSound};
 ghost use Rattle.residency.specs.State.{is_held};
 
+use crate::What;
 use crate::arrays::count_at;
 use crate::leaves::{Leaves, insert};
+use crate::plans::Plan;
 use crate::standings::Standing;
-use crate::{Layout, What};
 use geom_core::Memory;
 use std::cmp::Reverse;
 use std::collections::BTreeSet;
@@ -101,7 +102,7 @@ impl Leaves {
     }
 
     /// Whether the page is a leaf that only one frame pins by name, and perhaps none of these pages.
-    fn is_released(&self, layout: &Layout, standing: &Standing, pages: &[u32], page: u32) -> bool
+    fn is_released(&self, layout: &Plan, standing: &Standing, pages: &[u32], page: u32) -> bool
         ensures { (entries : ℕ) (frames : List Frame) → Agrees entries frames standing.now →
             Ranks layout.now frames standing.now self.now →
             is_leaf layout.now (shown standing.now frames) page ≡ true → (frame : ℕ) →
@@ -120,7 +121,7 @@ impl Leaves {
     /// Puts a leaf that only one frame pins by name, and none of these pages, into its place.
     fn release_page(
         &mut self,
-        layout: &Layout,
+        layout: &Plan,
         standing: &Standing,
         moment: Option<u64>,
         pages: &[u32],
@@ -142,7 +143,7 @@ impl Leaves {
     /// Puts the leaves of a frame's pages, but for those, into their places.
     fn release(
         &mut self,
-        layout: &Layout,
+        layout: &Plan,
         standing: &Standing,
         held: &BTreeSet<u32>,
         moment: Option<u64>,
@@ -165,7 +166,7 @@ impl Leaves {
     /// Puts the leaves that only the frame pins by name, but for those, into their places.
     fn release_of(
         &mut self,
-        layout: &Layout,
+        layout: &Plan,
         standing: &Standing,
         frame: u32,
         moment: Option<u64>,
@@ -188,7 +189,7 @@ impl Leaves {
     /// Lets the frame go of what it pins by name, but for these pages; this is the greatest moment left.
     fn let_go(
         &mut self,
-        layout: &Layout,
+        layout: &Plan,
         standing: &Standing,
         frame: u32,
         moment: Option<u64>,
@@ -210,18 +211,20 @@ impl Leaves {
     }
 
     /// Whether no frame pins the page by name, it is no root page, and at most one page stands on it.
-    pub fn is_baring(&self, layout: &Layout, standing: &Standing, page: u32) -> bool
+    pub fn is_baring(&self, layout: &Plan, standing: &Standing, page: u32) -> bool
         ensures { (entries : ℕ) (frames : List Frame) → Agrees entries frames standing.now →
             Ranks layout.now frames standing.now self.now → page < layout.now.pages →
             nat_lt page layout.now.roots ≡ false →
             count_on layout.now (is_held (shown standing.now frames)) page ≤ 1 →
             IsUnnamed (names standing.now.frames.holds) page → result ≡ true }
     {
-        page >= layout.roots && !standing.frames.is_named(page) && count_at(&self.lowers, page) <= 1
+        page >= layout.roots()
+            && !standing.frames.is_named(page)
+            && count_at(&self.lowers, page) <= 1
     }
 
     /// Puts a page that becomes a leaf once one page fewer stands on it into its place.
-    fn bare_page(&mut self, layout: &Layout, standing: &Standing, page: u32) -> Result<(), Memory>
+    fn bare_page(&mut self, layout: &Plan, standing: &Standing, page: u32) -> Result<(), Memory>
         ensures grows { Grows self.old self.new }
         ensures ok { (entries : ℕ) (frames : List Frame) → Agrees entries frames standing.now →
             Ranks layout.now frames standing.now self.old → OnOk result (page < layout.now.pages →
@@ -236,7 +239,7 @@ impl Leaves {
     }
 
     /// Puts the uppers of the page that become leaves once it goes into their places.
-    fn bare(&mut self, layout: &Layout, standing: &Standing, page: u32) -> Result<(), Memory>
+    fn bare(&mut self, layout: &Plan, standing: &Standing, page: u32) -> Result<(), Memory>
         ensures grows { Grows self.old self.new }
         ensures ok { (entries : ℕ) (frames : List Frame) → Agrees entries frames standing.now →
             Ranks layout.now frames standing.now self.old → OnOk result ((upper : ℕ) →
@@ -253,7 +256,7 @@ impl Leaves {
 
     /// Puts the pages that become leaves by the entry, or that it lets go of, into their places. After a
     /// Pin all that is resident is pinned, and by name what was: all stand where they did.
-    pub fn offer(&mut self, layout: &Layout, standing: &Standing, what: &What) -> Result<(), Memory>
+    pub fn offer(&mut self, layout: &Plan, standing: &Standing, what: &What) -> Result<(), Memory>
         requires { standing.now.entries < 2 ^ 64 - 1 }
         ensures grows { Grows self.old self.new }
         ensures ok { (frames : List Frame) (journal : List Entry) (by : ℕ) →

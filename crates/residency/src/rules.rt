@@ -13,8 +13,9 @@ ghost use Rattle.journal.specs.declared.entries.What.TheVariants.{Settle, Ask, N
 use crate::accounts::Account;
 use crate::nexts::next_in;
 use crate::pages::is_page_list;
+use crate::plans::Plan;
 use crate::standings::Standing;
-use crate::{Entry, Layout, Next, Spoilt, What};
+use crate::{Entry, Next, Spoilt, What};
 use journal::ascends;
 
 /// Whether the count of faults rose, or stays at its greatest.
@@ -61,7 +62,7 @@ fn is_full(next: Next) -> bool
 
 /// Whether a Settle is allowed.
 fn allows_settle(
-    layout: &Layout,
+    layout: &Plan,
     standing: &Standing,
     by: u32,
     frame: u32,
@@ -80,7 +81,7 @@ fn allows_settle(
 }
 
 /// Whether an Ask is allowed.
-fn allows_ask(layout: &Layout, standing: &Standing, by: u32, frame: u32, pages: &[u32]) -> bool
+fn allows_ask(layout: &Plan, standing: &Standing, by: u32, frame: u32, pages: &[u32]) -> bool
     ensures { (entries : ℕ) (frames : List Frame) → Agrees entries frames standing.now →
         result ≡ allows layout.now (shown standing.now frames) [] by (Ask frame pages.now) }
 {
@@ -88,7 +89,7 @@ fn allows_ask(layout: &Layout, standing: &Standing, by: u32, frame: u32, pages: 
 }
 
 /// Whether a Narrow is allowed.
-fn allows_narrow(layout: &Layout, standing: &Standing, by: u32, frame: u32, pages: &[u32]) -> bool
+fn allows_narrow(layout: &Plan, standing: &Standing, by: u32, frame: u32, pages: &[u32]) -> bool
     ensures { (entries : ℕ) (frames : List Frame) → Agrees entries frames standing.now →
         result ≡ allows layout.now (shown standing.now frames) [] by (Narrow frame pages.now) }
 {
@@ -100,7 +101,7 @@ fn allows_narrow(layout: &Layout, standing: &Standing, by: u32, frame: u32, page
 
 /// Whether a Take is allowed.
 fn allows_take(
-    layout: &Layout,
+    layout: &Plan,
     account: &Account,
     by: u32,
     frame: Option<u32>,
@@ -126,7 +127,7 @@ fn allows_take(
 }
 
 /// Whether a Full is allowed.
-fn allows_full(layout: &Layout, account: &Account, by: u32, frame: u32) -> bool
+fn allows_full(layout: &Plan, account: &Account, by: u32, frame: u32) -> bool
     ensures { (entries : ℕ) (frames : List Frame) → Agrees entries frames account.now.standing →
         Ranks layout.now frames account.now.standing account.now.leaves →
         AreOffered layout.now (shown account.now.standing frames) account.now.standing.wants.queue
@@ -143,7 +144,7 @@ fn allows_full(layout: &Layout, account: &Account, by: u32, frame: u32) -> bool
 }
 
 /// Whether the entry may stand next after the journal of which this is kept.
-pub fn allows(layout: &Layout, account: &Account, entry: &Entry) -> bool
+pub fn allows(layout: &Plan, account: &Account, entry: &Entry) -> bool
     ensures { (journal : List Entry) (entries : ℕ) (frames : List Frame) →
         Recalls journal account.now.recall → Agrees entries frames account.now.standing →
         Ranks layout.now frames account.now.standing account.now.leaves →

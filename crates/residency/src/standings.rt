@@ -9,10 +9,10 @@ ghost use Rattle.residency.specs.Shown.{shown};
 ghost use Rattle.residency.specs.State.{opening, is_resident, is_loading, is_held, is_live, held_count};
 ghost use Rattle.residency.specs.Victim.{is_pinned};
 
-use crate::Layout;
 use crate::arrays::{count_at, zeros};
 use crate::frames::Frames;
 use crate::places::Places;
+use crate::plans::Plan;
 use crate::wants::Wants;
 use geom_core::Memory;
 use std::alloc::Global;
@@ -48,16 +48,16 @@ pub fn covers(moment: Option<u64>, since: u64) -> bool
 
 impl Standing {
     /// Before any entry: the root pages are resident.
-    pub fn opening(alloc: Global, layout: &Layout) -> Result<Standing, Memory>
+    pub fn opening(alloc: Global, layout: &Plan) -> Result<Standing, Memory>
         ensures shows { IfOk result (λ standing. shown standing [] ≡ opening layout.now) }
         ensures agrees { IfOk result (Agrees 0 []) }
     {
         Ok(Standing {
             places: Places::opening(alloc, layout)?,
-            since: zeros(alloc, layout.pages)?,
-            frames: Frames::opening(alloc, layout.pages)?,
+            since: zeros(alloc, layout.pages())?,
+            frames: Frames::opening(alloc, layout.pages())?,
             wants: Wants::opening(alloc),
-            named: zeros(alloc, layout.pages)?,
+            named: zeros(alloc, layout.pages())?,
             stopped: false,
             entries: 0,
         })
@@ -71,11 +71,11 @@ impl Standing {
     }
 
     /// The resident pages, ascending.
-    pub fn residents(&self, alloc: Global, layout: &Layout) -> Result<Vec<u32>, Memory>
+    pub fn residents(&self, alloc: Global, layout: &Plan) -> Result<Vec<u32>, Memory>
         ensures { IfOk result (λ pages. pages.items
             ≡ filter (is_resident (shown self.now [])) (page_numbers layout.now)) }
     {
-        let pages = 0..layout.pages;
+        let pages = 0..layout.pages();
         Ok(pages.filter(|page| self.is_resident(*page)).collect(alloc)?)
     }
 

@@ -6,14 +6,14 @@ ghost use Rattle.residency.specs.Parking.{Ranks};
 ghost use Rattle.residency.specs.Shown.{shown};
 ghost use Rattle.residency.specs.Victim.{named_of, is_evictable, victim_for};
 
-use crate::Layout;
 use crate::accounts::Account;
+use crate::plans::Plan;
 use crate::releases::after;
 use crate::standings::Standing;
 use std::cmp::Reverse;
 
 /// Whether the candidate may be evicted for the page.
-fn is_evictable(layout: &Layout, account: &Account, page: u32, candidate: u32) -> bool
+fn is_evictable(layout: &Plan, account: &Account, page: u32, candidate: u32) -> bool
     ensures { (entries : ℕ) (frames : List Frame) → Agrees entries frames account.now.standing →
         Ranks layout.now frames account.now.standing account.now.leaves →
         result ≡ is_evictable layout.now (shown account.now.standing frames) page candidate }
@@ -22,7 +22,7 @@ fn is_evictable(layout: &Layout, account: &Account, page: u32, candidate: u32) -
     if !standing.is_resident(candidate) {
         return false;
     }
-    if candidate < layout.roots {
+    if candidate < layout.roots() {
         return false;
     }
     if standing.is_pinned(candidate) {
@@ -39,7 +39,7 @@ fn named(standing: &Standing, page: u32) -> u64
 }
 
 /// Whether the candidate was last named at this count of entries, and may be evicted for the page.
-fn fits(layout: &Layout, account: &Account, page: u32, count: u64, candidate: u32) -> bool
+fn fits(layout: &Plan, account: &Account, page: u32, count: u64, candidate: u32) -> bool
     ensures { (entries : ℕ) (frames : List Frame) → Agrees entries frames account.now.standing →
         Ranks layout.now frames account.now.standing account.now.leaves →
         result ≡ fits layout.now (shown account.now.standing frames) page (rank count candidate) }
@@ -50,7 +50,7 @@ fn fits(layout: &Layout, account: &Account, page: u32, count: u64, candidate: u3
 /// The victim for the page: of the evictable pages the one named least recently, of equals the one of
 /// greatest number. A page that a moment covers was installed by then, and each is named when it is
 /// installed, so those named by the greatest moment may be left out.
-pub fn victim_for(layout: &Layout, account: &Account, page: u32) -> Option<u32>
+pub fn victim_for(layout: &Plan, account: &Account, page: u32) -> Option<u32>
     ensures { (entries : ℕ) (frames : List Frame) → Agrees entries frames account.now.standing →
         Ranks layout.now frames account.now.standing account.now.leaves →
         result ≡ victim_for layout.now (shown account.now.standing frames) page }

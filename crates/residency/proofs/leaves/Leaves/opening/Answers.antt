@@ -4,7 +4,7 @@ use Rattle.residency.proofs.leaves.Leaves.opening.Goals as goal
 
 pub loop-root-init : goal.loop-root-init
 loop-root-init c = λ bounds.
-    CountsLowers-opening c.args.layout.now _ c.in_ok-zeros.ensures
+    CountsLowers-opening c.args.layout.now _ (rw c.pages.ensures at c.in_ok-zeros.ensures)
 
 pub loop-root-preserved : goal.loop-root-preserved
 loop-root-preserved c = λ bounds.
@@ -13,6 +13,6 @@ loop-root-preserved c = λ bounds.
 pub returns : goal.returns
 returns c = record {
   lowers = λ bounds.
-      let end : c.loop-root.root ≡ c.args.layout.now.roots = omega (arith, bounds.counts.roots_are_pages) in
+      let end : c.loop-root.root ≡ c.args.layout.now.roots = omega (arith, c.roots-root-end.ensures, bounds.counts.roots_are_pages) in
       CountsLowers-same c.args.layout.now _ _ c.loop-root.leaves.lowers.items (λ q below. held-opening c.args.layout.now q c.loop-root.root end below) (c.loop-root.invariant bounds);
 }

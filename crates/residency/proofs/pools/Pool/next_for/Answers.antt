@@ -7,4 +7,5 @@ pub returns : goal.returns
 returns c =
     let was = c.self.inside in
     let stands = c.self.invariant.keeps.stands in
-    rw (← c.self.view_is, ← stands.shows) (c.next_in.ensures (length was.journal.items) (state_of was.layout was.journal.items).frames stands.agrees c.self.invariant.keeps.ranks (AreOffered-shown was.layout was.journal.items was.account c.self.invariant.keeps))
+    let next = rw c.self.invariant.planned at c.next_in.ensures in
+    rw (← c.self.view_is, ← stands.shows) (next (length was.journal.items) (state_of was.layout was.journal.items).frames stands.agrees c.self.invariant.keeps.ranks (AreOffered-shown was.layout was.journal.items was.account c.self.invariant.keeps))

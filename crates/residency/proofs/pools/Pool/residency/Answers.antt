@@ -4,4 +4,5 @@ use Rattle.residency.proofs.pools.Pool.residency.Goals as goal
 pub returns : goal.returns
 returns c =
     let stands = c.self.invariant.keeps.stands in
-    rw (← c.self.view_is, ← stands.shows) (c.of.ensures ∙ c.in_ok-residents.ensures)
+    let residents = rw c.self.invariant.planned at c.in_ok-residents.ensures in
+    rw (← c.self.view_is, ← stands.shows) (c.of.ensures ∙ residents)

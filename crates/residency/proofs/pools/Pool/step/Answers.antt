@@ -19,12 +19,15 @@ invariant_of-self-2 c =
     let e = c.args.entry in
     let keeps = c.self.invariant.keeps in
     let items = rw c.in_ok-reserve_one.ensures.items at c.add.ensures in
-    let tested = rw keeps.stands.shows at (c.allows.ensures journal (length journal) (state_of layout journal).frames keeps.recalls keeps.stands.agrees keeps.ranks (AreOffered-shown layout journal was.account keeps)) in
+    let allows = rw c.self.invariant.planned at c.allows.ensures in
+    let tested = rw keeps.stands.shows at (allows journal (length journal) (state_of layout journal).frames keeps.recalls keeps.stands.agrees keeps.ranks (AreOffered-shown layout journal was.account keeps)) in
+    let enters = rw c.self.invariant.planned at c.in_ok-enter.ensures.ok in
     let allowed : is_allowed layout journal e ≡ true = sym tested ∙ c.if-not-allows.false in
     record {
+      planned = c.self.invariant.planned;
       bounded = c.self.invariant.bounded;
       legal = rw items (IsLegal-push layout journal e c.self.invariant.legal allowed);
-      keeps = rw items (c.in_ok-enter.ensures.ok journal keeps c.self.invariant.bounded c.self.invariant.legal allowed);
+      keeps = rw items (enters journal keeps c.self.invariant.bounded c.self.invariant.legal allowed);
     }
 
 pub returns-then-not-allows-clause-illegal : goal.returns-then-not-allows-clause-illegal
@@ -33,7 +36,8 @@ returns-then-not-allows-clause-illegal c =
     let layout = was.layout in
     let journal = was.journal.items in
     let keeps = c.self.invariant.keeps in
-    let tested = rw keeps.stands.shows at (c.allows.ensures journal (length journal) (state_of layout journal).frames keeps.recalls keeps.stands.agrees keeps.ranks (AreOffered-shown layout journal was.account keeps)) in
+    let allows = rw c.self.invariant.planned at c.allows.ensures in
+    let tested = rw keeps.stands.shows at (allows journal (length journal) (state_of layout journal).frames keeps.recalls keeps.stands.agrees keeps.ranks (AreOffered-shown layout journal was.account keeps)) in
     first_of (search rules, grind (arith, common_steps))
 
 pub returns-in_err-reserve_one-clause-illegal : goal.returns-in_err-reserve_one-clause-illegal
@@ -42,7 +46,8 @@ returns-in_err-reserve_one-clause-illegal c =
     let layout = was.layout in
     let journal = was.journal.items in
     let keeps = c.self.invariant.keeps in
-    let tested = rw keeps.stands.shows at (c.allows.ensures journal (length journal) (state_of layout journal).frames keeps.recalls keeps.stands.agrees keeps.ranks (AreOffered-shown layout journal was.account keeps)) in
+    let allows = rw c.self.invariant.planned at c.allows.ensures in
+    let tested = rw keeps.stands.shows at (allows journal (length journal) (state_of layout journal).frames keeps.recalls keeps.stands.agrees keeps.ranks (AreOffered-shown layout journal was.account keeps)) in
     first_of (search rules, grind (arith, common_steps))
 
 pub returns-in_err-enter-clause-illegal : goal.returns-in_err-enter-clause-illegal
@@ -51,7 +56,8 @@ returns-in_err-enter-clause-illegal c =
     let layout = was.layout in
     let journal = was.journal.items in
     let keeps = c.self.invariant.keeps in
-    let tested = rw keeps.stands.shows at (c.allows.ensures journal (length journal) (state_of layout journal).frames keeps.recalls keeps.stands.agrees keeps.ranks (AreOffered-shown layout journal was.account keeps)) in
+    let allows = rw c.self.invariant.planned at c.allows.ensures in
+    let tested = rw keeps.stands.shows at (allows journal (length journal) (state_of layout journal).frames keeps.recalls keeps.stands.agrees keeps.ranks (AreOffered-shown layout journal was.account keeps)) in
     first_of (search rules, grind (arith, common_steps))
 
 pub returns-clause-illegal : goal.returns-clause-illegal
@@ -60,7 +66,8 @@ returns-clause-illegal c =
     let layout = was.layout in
     let journal = was.journal.items in
     let keeps = c.self.invariant.keeps in
-    let tested = rw keeps.stands.shows at (c.allows.ensures journal (length journal) (state_of layout journal).frames keeps.recalls keeps.stands.agrees keeps.ranks (AreOffered-shown layout journal was.account keeps)) in
+    let allows = rw c.self.invariant.planned at c.allows.ensures in
+    let tested = rw keeps.stands.shows at (allows journal (length journal) (state_of layout journal).frames keeps.recalls keeps.stands.agrees keeps.ranks (AreOffered-shown layout journal was.account keeps)) in
     first_of (search rules, grind (arith, common_steps))
 
 pub invariant_of-self-in_err-enter : goal.invariant_of-self-in_err-enter
@@ -69,11 +76,14 @@ invariant_of-self-in_err-enter c =
     let layout = was.layout in
     let journal = was.journal.items in
     let keeps = c.self.invariant.keeps in
-    let tested = rw keeps.stands.shows at (c.allows.ensures journal (length journal) (state_of layout journal).frames keeps.recalls keeps.stands.agrees keeps.ranks (AreOffered-shown layout journal was.account keeps)) in
+    let allows = rw c.self.invariant.planned at c.allows.ensures in
+    let tested = rw keeps.stands.shows at (allows journal (length journal) (state_of layout journal).frames keeps.recalls keeps.stands.agrees keeps.ranks (AreOffered-shown layout journal was.account keeps)) in
+    let stays = rw c.self.invariant.planned at c.in_err-enter.ensures.err in
     let allowed : is_allowed layout journal c.args.entry ≡ true = sym tested ∙ c.if-not-allows.false in
     let items = c.in_ok-reserve_one.ensures.items in
     record {
+      planned = c.self.invariant.planned;
       bounded = c.self.invariant.bounded;
       legal = rw items c.self.invariant.legal;
-      keeps = rw items (c.in_err-enter.ensures.err journal keeps c.self.invariant.bounded c.self.invariant.legal allowed);
+      keeps = rw items (stays journal keeps c.self.invariant.bounded c.self.invariant.legal allowed);
     }

@@ -6,4 +6,5 @@ pub returns : goal.returns
 returns c =
     let was = c.self.inside in
     let stands = c.self.invariant.keeps.stands in
-    rw (← c.self.view_is, ← stands.shows) (c.victim_for.ensures (length was.journal.items) (state_of was.layout was.journal.items).frames stands.agrees c.self.invariant.keeps.ranks)
+    let victim = rw c.self.invariant.planned at c.victim_for.ensures in
+    rw (← c.self.view_is, ← stands.shows) (victim (length was.journal.items) (state_of was.layout was.journal.items).frames stands.agrees c.self.invariant.keeps.ranks)
