@@ -8,19 +8,19 @@ pub returns-then-held_count-from : goal.returns-then-held_count-from
 returns-then-held_count-from c = λ entries frames agrees ranks.
     let s = shown c.args.account.now.standing frames in
     let held = c.held_count.ensures entries frames agrees in
-    let lt : held_count s < c.args.layout.now.slots = omega (arith, held, c.slots.ensures, c.from.ensures, c.if-held_count-from.true) in
+    let lt : held_count s < c.args.layout.now.slots = omega (arith, held, c.from.ensures, c.if-held_count-from.true) in
     next_at-free c.args.layout.now s c.args.page lt
 
 pub returns-in-Some : goal.returns-in-Some
 returns-in-Some c = λ entries frames agrees ranks.
     let s = shown c.args.account.now.standing frames in
     let held = c.held_count.ensures entries frames agrees in
-    let le : c.args.layout.now.slots ≤ held_count s = omega (arith, held, c.slots.ensures, c.from.ensures, c.if-held_count-from.false) in
+    let le : c.args.layout.now.slots ≤ held_count s = omega (arith, held, c.from.ensures, c.if-held_count-from.false) in
     next_at-held c.args.layout.now s c.args.page _ le (c.in-Some.ensures entries frames agrees ranks)
 
 pub returns-in-None : goal.returns-in-None
 returns-in-None c = λ entries frames agrees ranks.
     let s = shown c.args.account.now.standing frames in
     let held = c.held_count.ensures entries frames agrees in
-    let le : c.args.layout.now.slots ≤ held_count s = omega (arith, held, c.slots.ensures, c.from.ensures, c.if-held_count-from.false) in
+    let le : c.args.layout.now.slots ≤ held_count s = omega (arith, held, c.from.ensures, c.if-held_count-from.false) in
     next_at-held c.args.layout.now s c.args.page _ le (c.in-None.ensures entries frames agrees ranks)
