@@ -3,8 +3,8 @@ ghost use Rattle.geode_tool.specs.Statuses.{status_of};
 
 use crate::texts::TextFault;
 use geom_core::Memory;
-use obj_source::{ObjFault, ObjWhy};
 use journal::JournalFault;
+use obj_source::{ObjFault, ObjWhy};
 use residency::ReplayFault;
 use thiserror::Error;
 
