@@ -3,7 +3,7 @@ use Rattle.std.proofs.Common.{◌≡◌, ◌≤◌, ◌<◌, ◌^◌, ℕ, List,
 use Rattle.std.specs.Prelude.{nat_le, IsErr, IfErr, IfSome}
 use Rattle.std.specs.Result.{IsErrAnd}
 use Rattle.journal.specs.Grammar.{journal_of}
-use Rattle.residency.specs.Rules.{first_refused, IsLegal}
+use Rattle.pool_rules.specs.Rules.{first_refused, IsLegal}
 use Rattle.residency.specs.History.{History}
 use Rattle.journal.specs.declared.entries.Entry.{Entry}
 use Rattle.journal.specs.declared.journals.Journal.{Journal}

@@ -3,7 +3,7 @@ use Rattle.std.specs.Prelude.{◌≡◌, ◌^◌, nat_le, ℕ, List, [], ◌∷�
 use Rattle.std.specs.Fmt.{decimal}
 use Rattle.span_io.specs.Faults.{Rose}
 use Rattle.journal.specs.Grammar.{journal_of}
-use Rattle.residency.specs.Rules.{first_refused}
+use Rattle.pool_rules.specs.Rules.{first_refused}
 use Rattle.journal.specs.declared.journals.Journal.{Journal}
 use Rattle.geode_tool.specs.Texts.{IsText}
 use Rattle.geode_tool.specs.declared.faults.Done.{Done}

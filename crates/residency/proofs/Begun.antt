@@ -5,14 +5,14 @@ use Rattle.journal.specs.declared.entries.Entry.{Entry}
 use Rattle.journal.specs.declared.entries.What.{What}
 use Rattle.journal.specs.declared.entries.What.TheVariants.{Pin, Settle, Ask, Narrow, Unpin, Take, Install, Fail, Spoil, Starve, Full, Stop}
 use Rattle.journal.specs.declared.layouts.Layout.{Layout}
-use Rattle.residency.specs.declared.wants.Want.{Want}
-use Rattle.residency.specs.Frame.{Frame}
+use Rattle.pool_rules.specs.declared.wants.Want.{Want}
+use Rattle.pool_rules.specs.Frame.{Frame}
 use Rattle.journal.specs.Layout.{ascends}
-use Rattle.residency.specs.Next.{is_take, is_full, next_in}
+use Rattle.pool_rules.specs.Next.{is_take, is_full, next_in}
 use Rattle.residency.specs.Recalled.{Begins, IsNew, frame_begun, is_frame}
-use Rattle.residency.specs.Rules.{allows, owns, pins, is_page_list, all_resident, any_resident, is_entry_of, has_entry}
-use Rattle.residency.specs.State.{State, opening, after, frames_after, is_live, put, state_of, waits_for, with_installed}
-use Rattle.residency.proofs.Tests.{and-both, not-false, or-cases, or-left, or-right, any-weaker, any-filter, same-eqb}
+use Rattle.pool_rules.specs.Rules.{allows, owns, pins, is_page_list, all_resident, any_resident, is_entry_of, has_entry}
+use Rattle.pool_rules.specs.State.{State, opening, after, frames_after, is_live, put, state_of, waits_for, with_installed}
+use Rattle.pool_rules.proofs.Tests.{and-both, not-false, or-cases, or-left, or-right, any-weaker, any-filter, same-eqb}
 
 -- ---- the frames that are live after an entry
 

@@ -11,12 +11,12 @@ use Rattle.std.specs.declared.cmp.Ordering.TheVariants.{Less}
 use Rattle.std.proofs.lemmas.List.Kept.{IsStrictlySortedBy-filter}
 use Rattle.std.proofs.lemmas.Map.Entries.{btree_map_get_place}
 use Rattle.std.proofs.lemmas.Map.Made.{is_some-lookup}
-use Rattle.residency.specs.declared.wants.Want.{Want}
-use Rattle.residency.specs.Offer.{has_ticket, passes, passing}
-use Rattle.residency.specs.Queue.{pair_cmp, want_at}
-use Rattle.residency.proofs.Leafing.{compared-equal, compared-less, then-less}
-use Rattle.residency.proofs.Tickets.{at-same, pair_total}
-use Rattle.residency.proofs.Tests.{or-cases, or-left, or-right, find-passes}
+use Rattle.pool_rules.specs.declared.wants.Want.{Want}
+use Rattle.pool_offers.specs.Offer.{has_ticket, passes, passing}
+use Rattle.pool_state.specs.Queue.{pair_cmp, want_at}
+use Rattle.pool_state.proofs.Ordered.{compared-equal, compared-less, then-less}
+use Rattle.pool_state.proofs.Tickets.{at-same, pair_total}
+use Rattle.pool_rules.proofs.Tests.{or-cases, or-left, or-right, find-passes}
 
 abbrev Ticket : Type 0
 Ticket = ℕ × ℕ

@@ -14,23 +14,24 @@ use Rattle.std.proofs.lemmas.Grind.{reverse_onto}
 use Rattle.std.proofs.lemmas.List.{reverse-append}
 use Rattle.std.proofs.lemmas.List.Sorted.{IsPermutation-reverse, list_any-IsPermutation}
 use Rattle.journal.specs.declared.layouts.Layout.{Layout}
-use Rattle.residency.specs.Agreement.{Agrees}
-use Rattle.residency.specs.declared.leaves.Leaves.{Leaves}
-use Rattle.residency.specs.declared.standings.Standing.{Standing}
-use Rattle.residency.specs.Frame.{Frame}
-use Rattle.residency.specs.Holding.{covers}
-use Rattle.residency.specs.Leaf.{rank, rank_cmp, fits, is_leaf}
-use Rattle.residency.specs.Parking.{Ranks}
-use Rattle.residency.specs.Shown.{shown}
-use Rattle.residency.specs.State.{State, is_resident}
-use Rattle.residency.specs.Victim.{named_of, is_evictable, is_pinned, victim_for, IsStaler}
-use Rattle.residency.proofs.Leafing.{below-pages, stands-from, end_at, rank-same, compared-less, compared-equal, then-less, leaf-whole}
-use Rattle.residency.proofs.Flags.{place-within}
-use Rattle.residency.proofs.Held.{pinned-covered}
-use Rattle.residency.proofs.Parked.{never-both, not-so}
-use Rattle.residency.proofs.Soundness.{loose}
-use Rattle.residency.proofs.Stalest.{IsVictim-from_some, HasNoVictim-from_none}
-use Rattle.residency.proofs.Tests.{and-both, same-eqb, or-cases, find-passes}
+use Rattle.pool_state.specs.Agreement.{Agrees}
+use Rattle.pool_leaves.specs.declared.leaves.Leaves.{Leaves}
+use Rattle.pool_state.specs.declared.standings.Standing.{Standing}
+use Rattle.pool_rules.specs.Frame.{Frame}
+use Rattle.pool_state.specs.Holding.{covers}
+use Rattle.pool_leaves.specs.Leaf.{rank, rank_cmp, fits, is_leaf}
+use Rattle.pool_leaves.specs.Parking.{Ranks}
+use Rattle.pool_state.specs.Shown.{shown}
+use Rattle.pool_rules.specs.State.{State, is_resident}
+use Rattle.pool_rules.specs.Victim.{named_of, is_evictable, is_pinned, victim_for, IsStaler}
+use Rattle.pool_leaves.proofs.Leafing.{below-pages, stands-from, end_at, rank-same, leaf-whole}
+use Rattle.pool_state.proofs.Ordered.{compared-less, compared-equal, then-less}
+use Rattle.pool_rules.proofs.Flags.{place-within}
+use Rattle.pool_state.proofs.Held.{pinned-covered}
+use Rattle.pool_state.proofs.Named.{never-both, not-so}
+use Rattle.pool_rules.proofs.Soundness.{loose}
+use Rattle.pool_rules.proofs.Stalest.{IsVictim-from_some, HasNoVictim-from_none}
+use Rattle.pool_rules.proofs.Tests.{and-both, same-eqb, or-cases, find-passes}
 
 abbrev Rank : Type 0
 Rank = Reverse ℕ × ℕ

@@ -1,28 +1,29 @@
 -- What is kept of a journal, by the count of its entries.
 use Rattle.std.proofs.Common.{◌≡◌, ℕ, ◌+◌, List, [], ◌∷◌, ◌++◌, true, length, sym, ap, ◌∙◌, subst}
-use Rattle.residency.specs.Agreement.{Agrees, Stands}
+use Rattle.pool_state.specs.Agreement.{Agrees, Stands}
 use Rattle.residency.specs.declared.accounts.Account.{Account}
 use Rattle.journal.specs.declared.entries.Entry.{Entry}
 use Rattle.journal.specs.declared.layouts.Layout.{Layout}
-use Rattle.residency.specs.declared.leaves.Leaves.{Leaves}
-use Rattle.residency.specs.declared.offers.Offers.{Offers}
+use Rattle.pool_leaves.specs.declared.leaves.Leaves.{Leaves}
+use Rattle.pool_offers.specs.declared.offers.Offers.{Offers}
 use Rattle.residency.specs.declared.recalls.Recall.{Recall}
-use Rattle.residency.specs.declared.standings.Standing.{Standing}
-use Rattle.residency.specs.Frame.{Frame}
+use Rattle.pool_state.specs.declared.standings.Standing.{Standing}
+use Rattle.pool_rules.specs.Frame.{Frame}
 use Rattle.residency.specs.Kept.{IsAt, Keeps}
 use Rattle.journal.specs.Layout.{InBounds}
-use Rattle.residency.specs.Leaf.{CountsLowers}
-use Rattle.residency.specs.Offer.{AreOffered}
-use Rattle.residency.specs.Parking.{IsReady, Moves, Ranks}
-use Rattle.residency.specs.Queue.{IsQueued}
+use Rattle.pool_leaves.specs.Leaf.{CountsLowers}
+use Rattle.pool_offers.specs.Offer.{AreOffered}
+use Rattle.pool_leaves.specs.Parking.{IsReady, Ranks}
+use Rattle.pool_state.specs.Moved.{Moves}
+use Rattle.pool_state.specs.Queue.{IsQueued}
 use Rattle.residency.specs.Recalled.{Recalls}
-use Rattle.residency.specs.Rules.{IsLegal, allows, is_allowed}
-use Rattle.residency.specs.Shown.{shown}
-use Rattle.residency.specs.Sound.{IsSound}
-use Rattle.residency.specs.State.{State, after, changed, is_held, state_of}
-use Rattle.residency.proofs.LegalJournals.{state_of-push, entries-state_of}
-use Rattle.residency.proofs.Parked.{Places-moved, Places-same}
-use Rattle.residency.proofs.Soundness.{IsSound-after, IsSound-state_of}
+use Rattle.pool_rules.specs.Rules.{IsLegal, allows, is_allowed}
+use Rattle.pool_state.specs.Shown.{shown}
+use Rattle.pool_rules.specs.Sound.{IsSound}
+use Rattle.pool_rules.specs.State.{State, after, changed, is_held, state_of}
+use Rattle.pool_rules.proofs.LegalJournals.{state_of-push, entries-state_of}
+use Rattle.pool_leaves.proofs.Parked.{Places-moved, Places-same}
+use Rattle.pool_rules.proofs.Soundness.{IsSound-after, IsSound-state_of}
 
 pub Stands-count : (layout : Layout) (journal : List Entry) (x : Standing) → Stands (length journal) x (state_of layout journal) → Stands (state_of layout journal).entries x (state_of layout journal)
 Stands-count layout journal x stands =

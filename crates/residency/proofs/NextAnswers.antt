@@ -2,10 +2,10 @@
 use Rattle.std.proofs.Common.{◌≡◌, ℕ, ◌<◌, ◌≤◌, true, false, cond, nat_lt, Option, None, sym, ap, ◌∙◌, arith}
 use Rattle.std.proofs.lemmas.Bool.Decides.{Decides-ltb, nat_tests}
 use Rattle.journal.specs.declared.layouts.Layout.{Layout}
-use Rattle.residency.specs.declared.nexts.Next.TheVariants.{Take}
-use Rattle.residency.specs.Next.{next_at, next_with}
-use Rattle.residency.specs.State.{State, held_count}
-use Rattle.residency.specs.Victim.{victim_for}
+use Rattle.pool_rules.specs.declared.nexts.Next.TheVariants.{Take}
+use Rattle.pool_rules.specs.Next.{next_at, next_with}
+use Rattle.pool_rules.specs.State.{State, held_count}
+use Rattle.pool_rules.specs.Victim.{victim_for}
 
 pub next_at-free : (layout : Layout) (s : State) (page : ℕ) → held_count s < layout.slots → Take page None ≡ next_at layout s page
 next_at-free layout s page lt =

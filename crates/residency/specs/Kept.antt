@@ -1,15 +1,15 @@
 -- What every pool keeps.
 use Rattle.std.specs.Prelude.{◌≡◌, List, length}
-use Rattle.residency.specs.Agreement.{Stands}
+use Rattle.pool_state.specs.Agreement.{Stands}
 use Rattle.residency.specs.declared.accounts.Account.{Account}
 use Rattle.journal.specs.declared.entries.Entry.{Entry}
 use Rattle.journal.specs.declared.layouts.Layout.{Layout}
 use Rattle.journal.specs.Layout.{InBounds}
-use Rattle.residency.specs.Offer.{AreOffered}
-use Rattle.residency.specs.Parking.{Ranks}
+use Rattle.pool_offers.specs.Offer.{AreOffered}
+use Rattle.pool_leaves.specs.Parking.{Ranks}
 use Rattle.residency.specs.Recalled.{Recalls}
-use Rattle.residency.specs.Rules.{IsLegal}
-use Rattle.residency.specs.State.{State, state_of}
+use Rattle.pool_rules.specs.Rules.{IsLegal}
+use Rattle.pool_rules.specs.State.{State, state_of}
 
 -- what is kept is of the state
 pub record IsAt (layout : Layout) (s : State) (account : Account) : Type 0 where

@@ -9,8 +9,8 @@ use Rattle.journal.specs.declared.entries.Entry.{Entry}
 use Rattle.journal.specs.declared.entries.What.{What}
 use Rattle.journal.specs.declared.entries.What.TheVariants.{Pin, Fail}
 use Rattle.residency.specs.declared.recalls.Recall.{Recall}
-use Rattle.residency.specs.Rules.{has_entry, is_entry_of, last_after, owns}
-use Rattle.residency.specs.State.{State}
+use Rattle.pool_rules.specs.Rules.{has_entry, is_entry_of, last_after, owns}
+use Rattle.pool_rules.specs.State.{State}
 
 -- the frame that the entry begins: that of a Pin by a maker that doesn't own it
 abbrev pub frame_begun : State → ℕ → What → Option ℕ

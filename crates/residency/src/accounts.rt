@@ -2,22 +2,21 @@ ghost use Rattle.std.specs.Prelude.{◌≡◌, ◌++◌, ◌∷◌, ◌<◌, ◌
 ghost use Rattle.journal.specs.declared.entries.Entry.{Entry};
 ghost use Rattle.journal.specs.declared.entries.What.TheVariants.{Pin};
 ghost use Rattle.residency.specs.Recalled.{Recalls, frame_begun};
-ghost use Rattle.residency.specs.Agreement.{Agrees, Stands};
-ghost use Rattle.residency.specs.Frame.{Frame};
+ghost use Rattle.pool_state.specs.Agreement.{Agrees, Stands};
+ghost use Rattle.pool_rules.specs.Frame.{Frame};
 ghost use Rattle.journal.specs.Layout.{InBounds};
-ghost use Rattle.residency.specs.Offer.{AreOffered, ListsTouched};
-ghost use Rattle.residency.specs.Parking.{Ranks};
-ghost use Rattle.residency.specs.Rules.{is_allowed, IsLegal};
-ghost use Rattle.residency.specs.Shown.{shown};
-ghost use Rattle.residency.specs.State.{opening, state_of};
+ghost use Rattle.pool_offers.specs.Offer.{AreOffered, ListsTouched};
+ghost use Rattle.pool_leaves.specs.Parking.{Ranks};
+ghost use Rattle.pool_rules.specs.Rules.{is_allowed, IsLegal};
+ghost use Rattle.pool_state.specs.Shown.{shown};
+ghost use Rattle.pool_rules.specs.State.{opening, state_of};
 
-use crate::leaves::Leaves;
-use crate::offers::Offers;
-use crate::plans::Plan;
 use crate::recalls::Recall;
-use crate::standings::Standing;
 use crate::{Entry, What};
 use geom_core::Memory;
+use pool_leaves::Leaves;
+use pool_offers::Offers;
+use pool_state::{Plan, Standing};
 use std::alloc::Global;
 
 /// What is kept of a journal: how the pool stands after it, and what it told of frames and makers.

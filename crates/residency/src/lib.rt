@@ -9,34 +9,20 @@
 #![tactic(auto)]
 
 mod accounts;
-mod arrays;
-mod changes;
-mod frames;
-pub mod laws;
-mod leaves;
-mod lowers;
 mod nexts;
 #[cfg(test)]
 mod offer_tests;
-mod offers;
 mod pages;
-mod places;
-mod plans;
 #[cfg(test)]
 mod pool_tests;
 mod pools;
-mod prunes;
 mod recalls;
-mod releases;
-mod rows;
 mod rules;
-mod standings;
 mod victims;
-mod wants;
 
 pub use journal::{
     Entries, Entry, Journal, JournalFault, Layout, Spoilt, Uppers, What,
     printed_journal_reads_back, read_journal,
 };
-pub use nexts::Next;
+pub use pool_rules::{Next, laws};
 pub use pools::{Pool, ReplayFault, StepFault};

@@ -1,45 +1,20 @@
 ghost use Rattle.std.specs.Prelude.{◌≡◌, [], List, ℕ};
-ghost use Rattle.residency.specs.Agreement.{Agrees};
-ghost use Rattle.residency.specs.Frame.{Frame};
-ghost use Rattle.residency.specs.Parking.{Ranks};
-ghost use Rattle.residency.specs.Offer.{AreOffered, IsSpan, passing};
-ghost use Rattle.residency.specs.Queue.{IsQueued, pair_cmp, want_at};
-ghost use Rattle.residency.specs.Shown.{shown};
+ghost use Rattle.pool_state.specs.Agreement.{Agrees};
+ghost use Rattle.pool_rules.specs.Frame.{Frame};
+ghost use Rattle.pool_leaves.specs.Parking.{Ranks};
+ghost use Rattle.pool_offers.specs.Offer.{AreOffered, IsSpan, passing};
+ghost use Rattle.pool_state.specs.Queue.{IsQueued, pair_cmp, want_at};
+ghost use Rattle.pool_state.specs.Shown.{shown};
 ghost use Rattle.journal.specs.declared.layouts.Layout.{Layout};
 ghost use Rattle.std.specs.BTreeMap.Range.{IsLeBy, IsLtBy};
 ghost use Rattle.std.specs.Range.Bound.{IsForward};
-ghost use Rattle.residency.specs.Next.{is_want_for, can_take, is_takeable, first_takeable, is_busy, first_loading, next_at, next_without, next_in};
+ghost use Rattle.pool_rules.specs.Next.{is_want_for, can_take, is_takeable, first_takeable, is_busy, first_loading, next_at, next_without, next_in};
 
 use crate::accounts::Account;
-use crate::plans::Plan;
-use crate::standings::Standing;
 use crate::victims::victim_for;
-use crate::wants::{Want, Wants};
+use pool_rules::{Next, Want};
+use pool_state::{Plan, Standing, Wants, can_take};
 use std::ops::Bound;
-
-/// What a loader may do next, for a frame or for all of them.
-#[derive(Clone, Copy, Debug, PartialEq, Eq)]
-pub enum Next {
-    /// Take this page, and evict the victim where there is one; None where a slot is free.
-    Take {
-        /// The page to take.
-        page: u32,
-        /// The page to evict for it.
-        victim: Option<u32>,
-    },
-    /// This page could be taken, but no slot is free and no page can be evicted for it.
-    Full {
-        /// The page that could be taken.
-        page: u32,
-    },
-    /// No page of the frame's wants can be taken, and this one of them is being loaded.
-    Busy {
-        /// The page that is being loaded.
-        page: u32,
-    },
-    /// No page that is wanted can be taken.
-    Nothing,
-}
 
 /// Whether it is a want of this frame, or of any where none is named.
 fn is_want_for(frame: Option<u32>, want: &Want) -> bool
@@ -49,13 +24,6 @@ fn is_want_for(frame: Option<u32>, want: &Want) -> bool
         Some(frame) => want.frame == frame,
         None => true,
     }
-}
-
-/// Whether the page can be taken: it is neither resident nor being loaded, and its uppers are resident.
-pub fn can_take(layout: &Plan, standing: &Standing, page: u32) -> bool
-    ensures { result ≡ can_take layout.now (shown standing.now []) page }
-{
-    !standing.is_held(page) && standing.all_resident(layout.uppers_of(page))
 }
 
 /// Whether it is a want for the frame, or for any, and its page can be taken.

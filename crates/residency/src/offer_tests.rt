@@ -1,8 +1,8 @@
 use crate::accounts::Account;
-use crate::plans::Plan;
 use crate::rules::allows;
 use crate::{Entry, read_journal};
 use geom_core::Memory;
+use pool_state::Plan;
 use std::alloc::Global;
 use std::test::Fail;
 

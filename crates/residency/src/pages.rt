@@ -1,8 +1,8 @@
 ghost use Rattle.std.specs.Prelude.{◌≡◌};
-ghost use Rattle.residency.specs.Rules.{is_page_list};
+ghost use Rattle.pool_rules.specs.Rules.{is_page_list};
 
-use crate::plans::Plan;
 use journal::{all_below, ascends};
+use pool_state::Plan;
 
 /// Whether the pages ascend, each below the number of pages.
 pub fn is_page_list(layout: &Plan, pages: &[u32]) -> bool

@@ -1,20 +1,20 @@
 ghost use Rattle.std.specs.Prelude.{◌≡◌, ◌<◌, ◌↔◌, ◌++◌, ◌∷◌, [], ℕ, Bool, false, true, List, Some, IfOk, OnOk, OnErr, ◌-◌, ◌^◌, length, vec_len, vec_capacity};
 ghost use Rattle.residency.specs.History.{History, begun, entered};
 ghost use Rattle.journal.specs.Layout.{InBounds};
-ghost use Rattle.residency.specs.Next.{next_after};
-ghost use Rattle.residency.specs.Rules.{is_allowed, first_refused, IsLegal};
-ghost use Rattle.residency.specs.Sound.{IsSound};
+ghost use Rattle.pool_rules.specs.Next.{next_after};
+ghost use Rattle.pool_rules.specs.Rules.{is_allowed, first_refused, IsLegal};
+ghost use Rattle.pool_rules.specs.Sound.{IsSound};
 ghost use Rattle.residency.specs.Kept.{Keeps};
-ghost use Rattle.residency.specs.State.{is_resident, residency, state_of};
-ghost use Rattle.residency.specs.Victim.{victim_after};
+ghost use Rattle.pool_rules.specs.State.{is_resident, residency, state_of};
+ghost use Rattle.pool_rules.specs.Victim.{victim_after};
 
 use crate::accounts::Account;
 use crate::nexts::next_in;
-use crate::plans::Plan;
 use crate::rules::allows;
 use crate::victims::victim_for;
 use crate::{Entry, Layout, Next};
 use geom_core::{Memory, Nums};
+use pool_state::Plan;
 use std::alloc::Global;
 use std::marker::Model;
 

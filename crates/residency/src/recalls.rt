@@ -4,7 +4,7 @@ ghost use Rattle.std.specs.BTreeSet as set;
 ghost use Rattle.std.specs.Ordering.{nat_cmp};
 ghost use Rattle.journal.specs.declared.entries.Entry.{Entry};
 ghost use Rattle.residency.specs.Recalled.{Awaits, Begins, HasRoomFor, IsNew, Recalls, faults_of, is_listed};
-ghost use Rattle.residency.specs.Rules.{has_entry, last_after};
+ghost use Rattle.pool_rules.specs.Rules.{has_entry, last_after};
 
 use crate::{Entry, What};
 use geom_core::Memory;

@@ -1,22 +1,21 @@
 ghost use Rattle.std.specs.Prelude.{◌≡◌, [], List, ℕ};
-ghost use Rattle.residency.specs.Agreement.{Agrees};
-ghost use Rattle.residency.specs.Frame.{Frame};
+ghost use Rattle.pool_state.specs.Agreement.{Agrees};
+ghost use Rattle.pool_rules.specs.Frame.{Frame};
 ghost use Rattle.journal.specs.declared.entries.Entry.{Entry};
 ghost use Rattle.residency.specs.Recalled.{Recalls};
-ghost use Rattle.residency.specs.Parking.{Ranks};
-ghost use Rattle.residency.specs.Offer.{AreOffered};
-ghost use Rattle.residency.specs.Shown.{shown};
-ghost use Rattle.residency.specs.Rules.{rose, is_wrong, allows};
-ghost use Rattle.residency.specs.Next.{is_take, is_full};
+ghost use Rattle.pool_leaves.specs.Parking.{Ranks};
+ghost use Rattle.pool_offers.specs.Offer.{AreOffered};
+ghost use Rattle.pool_state.specs.Shown.{shown};
+ghost use Rattle.pool_rules.specs.Rules.{rose, is_wrong, allows};
+ghost use Rattle.pool_rules.specs.Next.{is_take, is_full};
 ghost use Rattle.journal.specs.declared.entries.What.TheVariants.{Settle, Ask, Narrow, Take, Full};
 
 use crate::accounts::Account;
 use crate::nexts::next_in;
 use crate::pages::is_page_list;
-use crate::plans::Plan;
-use crate::standings::Standing;
 use crate::{Entry, Next, Spoilt, What};
 use journal::ascends;
+use pool_state::{Plan, Standing};
 
 /// Whether the count of faults rose, or stays at its greatest.
 fn rose(before: u64, after: u64) -> bool

@@ -1,15 +1,14 @@
 ghost use Rattle.std.specs.Prelude.{◌≡◌, [], List, ℕ};
-ghost use Rattle.residency.specs.Agreement.{Agrees};
-ghost use Rattle.residency.specs.Frame.{Frame};
-ghost use Rattle.residency.specs.Leaf.{fits, rank};
-ghost use Rattle.residency.specs.Parking.{Ranks};
-ghost use Rattle.residency.specs.Shown.{shown};
-ghost use Rattle.residency.specs.Victim.{named_of, is_evictable, victim_for};
+ghost use Rattle.pool_state.specs.Agreement.{Agrees};
+ghost use Rattle.pool_rules.specs.Frame.{Frame};
+ghost use Rattle.pool_leaves.specs.Leaf.{fits, rank};
+ghost use Rattle.pool_leaves.specs.Parking.{Ranks};
+ghost use Rattle.pool_state.specs.Shown.{shown};
+ghost use Rattle.pool_rules.specs.Victim.{named_of, is_evictable, victim_for};
 
 use crate::accounts::Account;
-use crate::plans::Plan;
-use crate::releases::after;
-use crate::standings::Standing;
+use pool_leaves::after;
+use pool_state::{Plan, Standing};
 use std::cmp::Reverse;
 
 /// Whether the candidate may be evicted for the page.

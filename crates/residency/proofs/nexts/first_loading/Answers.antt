@@ -1,11 +1,11 @@
 use Rattle.std.proofs.Common.{◌∙◌, sym, [], ap, ◌==◌}
 use Rattle.std.specs.Map.Iter.{deref}
 use Rattle.std.proofs.lemmas.Map.Iter.{rest_more, rest_all}
-use Rattle.residency.specs.Next.{is_busy}
-use Rattle.residency.specs.Shown.{shown}
-use Rattle.residency.specs.State.{is_loading}
+use Rattle.pool_rules.specs.Next.{is_busy}
+use Rattle.pool_state.specs.Shown.{shown}
+use Rattle.pool_rules.specs.State.{is_loading}
 use Rattle.residency.proofs.Earliest.{first_at, first-of_span, first_at-later, first_at-here, first_at-end}
-use Rattle.residency.proofs.Tests.{and-both}
+use Rattle.pool_rules.proofs.Tests.{and-both}
 use Rattle.residency.proofs.nexts.first_loading.Goals as goal
 
 pub loop-ticket-preserved : goal.loop-ticket-preserved

@@ -1,6 +1,6 @@
 use Rattle.std.proofs.Common.{◌≡◌, []}
-use Rattle.residency.specs.Next.{is_busy}
-use Rattle.residency.specs.Shown.{shown}
+use Rattle.pool_rules.specs.Next.{is_busy}
+use Rattle.pool_state.specs.Shown.{shown}
 use Rattle.residency.proofs.Earliest.{first_at}
 use Rattle.residency.proofs.nexts.first_loading.Given as goal
 

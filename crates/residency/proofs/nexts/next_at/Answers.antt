@@ -1,6 +1,6 @@
 use Rattle.std.proofs.Common.{◌<◌, ◌≤◌, arith}
-use Rattle.residency.specs.Shown.{shown}
-use Rattle.residency.specs.State.{held_count}
+use Rattle.pool_state.specs.Shown.{shown}
+use Rattle.pool_rules.specs.State.{held_count}
 use Rattle.residency.proofs.NextAnswers.{next_at-free, next_at-held}
 use Rattle.residency.proofs.nexts.next_at.Goals as goal
 

@@ -1,6 +1,6 @@
 use Rattle.std.proofs.Common.{ap, ◌∙◌}
-use Rattle.residency.specs.Next.{next_of}
-use Rattle.residency.specs.Shown.{shown}
+use Rattle.pool_rules.specs.Next.{next_of}
+use Rattle.pool_state.specs.Shown.{shown}
 use Rattle.residency.proofs.nexts.next_in.Goals as goal
 
 pub returns-in-Some : goal.returns-in-Some

@@ -1,5 +1,5 @@
 use Rattle.std.proofs.Common.{ap}
-use Rattle.residency.specs.Next.{busy_with}
+use Rattle.pool_rules.specs.Next.{busy_with}
 use Rattle.residency.proofs.nexts.next_without.Goals as goal
 
 pub returns-in-Some-first_loading : goal.returns-in-Some-first_loading

@@ -1,9 +1,9 @@
 use Rattle.std.proofs.Common.{◌≡◌, ◌≤◌, ◌-◌, ◌^◌, ◌∙◌, true, Some, arith}
 use Rattle.std.specs.BTreeMap.{get}
 use Rattle.std.specs.Ordering.{nat_cmp}
-use Rattle.residency.specs.Next.{is_want_for}
-use Rattle.residency.proofs.Tests.{same-eqb}
-use Rattle.residency.proofs.Tickets.{in-range}
+use Rattle.pool_rules.specs.Next.{is_want_for}
+use Rattle.pool_rules.proofs.Tests.{same-eqb}
+use Rattle.pool_state.proofs.Tickets.{in-range}
 use Rattle.residency.proofs.nexts.span_of.Goals as goal
 
 pub returns-in-Some-get-clause-span : goal.returns-in-Some-get-clause-span

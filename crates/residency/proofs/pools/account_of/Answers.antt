@@ -1,9 +1,10 @@
 use Rattle.std.proofs.Common.{◌≡◌, ◌∙◌, ◌∷◌, ◌++◌, ◌+◌, ◌<◌, [], sym, ap, arith, take, drop, length, length-take, add-one, drop-cons, suc, true}
 use Rattle.std.proofs.lemmas.List.{take_more}
 use Rattle.residency.proofs.Kept.{AreOffered-shown}
-use Rattle.residency.proofs.LegalJournals.{entries-state_of, IsLegal-push, refused-here, allowed-here, told-place}
-use Rattle.residency.specs.Rules.{is_allowed, first_refused_after}
-use Rattle.residency.specs.State.{State, state_of}
+use Rattle.pool_rules.proofs.LegalJournals.{entries-state_of, IsLegal-push, refused-here, allowed-here}
+use Rattle.residency.proofs.Told.{told-place}
+use Rattle.pool_rules.specs.Rules.{is_allowed, first_refused_after}
+use Rattle.pool_rules.specs.State.{State, state_of}
 use Rattle.residency.proofs.pools.account_of.Goals as goal
 
 pub enter-requires : goal.enter-requires

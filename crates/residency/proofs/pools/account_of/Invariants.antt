@@ -1,6 +1,6 @@
 use Rattle.std.proofs.Common.{◌≡◌, take, drop}
 use Rattle.residency.specs.Kept.{Keeps}
-use Rattle.residency.specs.Rules.{IsLegal, first_refused, first_refused_after}
+use Rattle.pool_rules.specs.Rules.{IsLegal, first_refused, first_refused_after}
 use Rattle.residency.proofs.pools.account_of.Given as goal
 
 -- each entry so far was allowed, and what is kept is of them

@@ -1,6 +1,7 @@
 use Rattle.std.proofs.Common.{◌∙◌, ◌==◌}
 use Rattle.residency.specs.Recalled.{falling, is_listed}
-use Rattle.residency.proofs.Falling.{falling-test, put-in}
+use Rattle.residency.proofs.Falling.{falling-test}
+use Rattle.pool_state.proofs.Ordered.{put-in}
 use Rattle.residency.proofs.recalls.list_frame.Goals as goal
 
 pub returns-clause-ok : goal.returns-clause-ok

@@ -1,6 +1,6 @@
 use Rattle.std.proofs.Common.{refl, ◌∙◌}
-use Rattle.residency.specs.Shown.{shown}
-use Rattle.residency.proofs.Allowed.{take-journal}
+use Rattle.pool_state.specs.Shown.{shown}
+use Rattle.pool_rules.proofs.Allowed.{take-journal}
 use Rattle.residency.proofs.rules.allows.Goals as goal
 
 pub returns-then-owns : goal.returns-then-owns

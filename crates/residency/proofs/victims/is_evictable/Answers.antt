@@ -1,7 +1,7 @@
 use Rattle.std.proofs.Common.{sym, arith, rules}
 use Rattle.std.proofs.lemmas.Grind.{common_steps}
-use Rattle.residency.specs.Shown.{shown}
-use Rattle.residency.proofs.Leafing.{below-pages}
+use Rattle.pool_state.specs.Shown.{shown}
+use Rattle.pool_leaves.proofs.Leafing.{below-pages}
 use Rattle.residency.proofs.victims.is_evictable.Goals as goal
 
 pub returns-then-is_pinned : goal.returns-then-is_pinned

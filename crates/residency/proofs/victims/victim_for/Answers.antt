@@ -5,10 +5,10 @@ use Rattle.std.specs.BTreeSet.{keys_between}
 use Rattle.std.specs.List.{find}
 use Rattle.std.specs.Map.Iter.{deref}
 use Rattle.std.specs.declared.ops.Bound.TheVariants.{Included, Unbounded}
-use Rattle.residency.specs.Leaf.{fits, rank_cmp}
-use Rattle.residency.specs.Shown.{shown}
+use Rattle.pool_leaves.specs.Leaf.{fits, rank_cmp}
+use Rattle.pool_state.specs.Shown.{shown}
 use Rattle.residency.proofs.Foremost.{HasEvictable-from, find-later, find-here, find-end, last-more, last-all, reverse-last, victim-found, victim-none}
-use Rattle.residency.proofs.Leafing.{end_at}
+use Rattle.pool_leaves.proofs.Leafing.{end_at}
 use Rattle.residency.proofs.victims.victim_for.Goals as goal
 
 pub loop-place-init : goal.loop-place-init

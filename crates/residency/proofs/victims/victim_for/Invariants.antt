@@ -2,12 +2,12 @@ use Rattle.std.proofs.Common.{◌≡◌, ℕ, List, reverse}
 use Rattle.std.specs.BTreeSet.{keys_between}
 use Rattle.std.specs.List.{find}
 use Rattle.std.specs.declared.ops.Bound.TheVariants.{Included, Unbounded}
-use Rattle.residency.specs.Agreement.{Agrees}
-use Rattle.residency.specs.Frame.{Frame}
-use Rattle.residency.specs.Leaf.{fits, rank_cmp}
-use Rattle.residency.specs.Parking.{Ranks}
-use Rattle.residency.specs.Shown.{shown}
-use Rattle.residency.proofs.Leafing.{end_at}
+use Rattle.pool_state.specs.Agreement.{Agrees}
+use Rattle.pool_rules.specs.Frame.{Frame}
+use Rattle.pool_leaves.specs.Leaf.{fits, rank_cmp}
+use Rattle.pool_leaves.specs.Parking.{Ranks}
+use Rattle.pool_state.specs.Shown.{shown}
+use Rattle.pool_leaves.proofs.Leafing.{end_at}
 use Rattle.residency.proofs.victims.victim_for.Given as goal
 
 -- the first that fits of the places left, from the last on, is the first of all

@@ -1,14 +1,14 @@
 use Rattle.std.proofs.Common.{subst, ap}
-use Rattle.residency.specs.Leaf.{CountsLowers}
-use Rattle.residency.specs.Next.{can_take}
-use Rattle.residency.specs.Offer.{HasPages}
-use Rattle.residency.specs.Queue.{pages_queued}
-use Rattle.residency.specs.State.{State, is_held, is_loading, state_of}
-use Rattle.residency.proofs.Agreed.{on_err}
+use Rattle.pool_leaves.specs.Leaf.{CountsLowers}
+use Rattle.pool_rules.specs.Next.{can_take}
+use Rattle.pool_offers.specs.Offer.{HasPages}
+use Rattle.pool_state.specs.Queue.{pages_queued}
+use Rattle.pool_rules.specs.State.{State, is_held, is_loading, state_of}
+use Rattle.pool_state.proofs.Agreed.{on_err}
 use Rattle.residency.proofs.Kept.{IsAt-push, Ranks-entered, before-entry}
-use Rattle.residency.proofs.Offering.{AreOffered-wider, AreOffered-after, AreOffered-entered, Offers-for}
-use Rattle.residency.proofs.Parked.{Ranks-stays, Ranks-wider}
-use Rattle.residency.proofs.Soundness.{IsSound-state_of}
+use Rattle.pool_offers.proofs.Offering.{AreOffered-wider, AreOffered-after, AreOffered-entered, Offers-for}
+use Rattle.pool_leaves.proofs.Parked.{Ranks-stays, Ranks-wider}
+use Rattle.pool_rules.proofs.Soundness.{IsSound-state_of}
 use Rattle.residency.proofs.accounts.Account.change.Goals as goal
 
 pub returns-in_err-offer-clause-err : goal.returns-in_err-offer-clause-err

@@ -1,8 +1,8 @@
 use Rattle.std.proofs.Common.{◌≡◌, length, ◌++◌, ◌∷◌, [], ◌∙◌, sym, subst}
 use Rattle.residency.specs.Kept.{IsAt}
 use Rattle.residency.specs.Recalled.{frame_begun}
-use Rattle.residency.specs.State.{State, state_of}
-use Rattle.residency.proofs.Agreed.{from_ok, from_err}
+use Rattle.pool_rules.specs.State.{State, state_of}
+use Rattle.pool_state.proofs.Agreed.{from_ok, from_err}
 use Rattle.residency.proofs.Begun.{Begins-allowed, IsNew-allowed}
 use Rattle.residency.proofs.Kept.{IsAt-kept, IsAt-pruned, Keeps-at}
 use Rattle.residency.proofs.accounts.Account.enter.Goals as goal

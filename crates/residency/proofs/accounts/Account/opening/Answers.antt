@@ -1,7 +1,7 @@
 use Rattle.std.proofs.Common.{ap}
-use Rattle.residency.specs.State.{State, opening}
-use Rattle.residency.proofs.Offering.{AreOffered-opening}
-use Rattle.residency.proofs.Parked.{Ranks-opening}
+use Rattle.pool_rules.specs.State.{State, opening}
+use Rattle.pool_offers.proofs.Offering.{AreOffered-opening}
+use Rattle.pool_leaves.proofs.Parked.{Ranks-opening}
 use Rattle.residency.proofs.accounts.Account.opening.Goals as goal
 
 pub returns-clause-ranks : goal.returns-clause-ranks

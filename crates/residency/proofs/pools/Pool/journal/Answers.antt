@@ -1,4 +1,4 @@
-use Rattle.residency.proofs.Soundness.{IsSound-state_of}
+use Rattle.pool_rules.proofs.Soundness.{IsSound-state_of}
 use Rattle.residency.proofs.pools.Pool.journal.Goals as goal
 
 pub returns-clause-sound : goal.returns-clause-sound

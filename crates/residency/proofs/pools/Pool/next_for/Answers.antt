@@ -1,5 +1,5 @@
 use Rattle.std.proofs.Common.{length}
-use Rattle.residency.specs.State.{state_of}
+use Rattle.pool_rules.specs.State.{state_of}
 use Rattle.residency.proofs.Kept.{AreOffered-shown}
 use Rattle.residency.proofs.pools.Pool.next_for.Goals as goal
 

@@ -1,9 +1,9 @@
 use Rattle.std.proofs.Common.{◌≡◌, true, ap, sym, ◌∙◌, arith, length, rules}
 use Rattle.std.proofs.lemmas.Grind.{common_steps}
 use Rattle.residency.proofs.Kept.{AreOffered-shown}
-use Rattle.residency.proofs.LegalJournals.{entries-state_of, IsLegal-push}
-use Rattle.residency.specs.Rules.{is_allowed}
-use Rattle.residency.specs.State.{State, state_of}
+use Rattle.pool_rules.proofs.LegalJournals.{entries-state_of, IsLegal-push}
+use Rattle.pool_rules.specs.Rules.{is_allowed}
+use Rattle.pool_rules.specs.State.{State, state_of}
 use Rattle.residency.proofs.pools.Pool.step.Goals as goal
 
 pub enter-requires : goal.enter-requires

@@ -1,0 +1,11 @@
+use Rattle.std.proofs.Common.{refl}
+use Rattle.pool_leaves.proofs.Parked.{Ranks-unordered}
+use Rattle.pool_state.proofs.Named.{named-not, unpinned-unnamed}
+use Rattle.pool_leaves.proofs.leaves.Leaves.unorder_named.Goals as goal
+
+pub returns-then-is_named : goal.returns-then-is_named
+returns-then-is_named c = λ layout entries frames agrees ranked.
+    let x = c.args.standing.now in
+    let page = c.args.page in
+    let named = named-not x.frames.holds page (c.if-is_named.ensures.named agrees.indexed refl) in
+    Ranks-unordered layout frames x c.args.self.now _ c.count_at.result page refl refl c.remove.ensures.removed (λ at leaf. ((λ loose. named (unpinned-unnamed entries frames x page agrees loose)), (λ unnamed. absurd (named unnamed)))) ranked

@@ -1,0 +1,172 @@
+ghost use Rattle.std.specs.Prelude.{◌≡◌, ◌+◌, ◌-◌, ◌<◌, ◌^◌, ℕ, Bool, IfOk, OnOk, count_by, length, min, nat_eq, slice_index_or, true, List};
+ghost use Rattle.journal.specs.declared.entries.Entry.{Entry};
+ghost use Rattle.journal.specs.declared.layouts.Layout.{Layout};
+ghost use Rattle.pool_rules.specs.Frame.{Frame};
+ghost use Rattle.journal.specs.Layout.{InBounds};
+ghost use Rattle.pool_leaves.specs.Leaf.{Begins, CountsLowers, IsWider, Removes, is_leaf, ranks};
+ghost use Rattle.pool_rules.specs.Rules.{allows};
+ghost use Rattle.pool_state.specs.Shown.{shown};
+ghost use Rattle.pool_rules.specs.Sound.{IsSound};
+ghost use Rattle.pool_rules.specs.State.{State, changed, is_held, opening};
+ghost use Rattle.pool_rules.specs.Victim.{is_stood_on};
+
+use geom_core::Memory;
+use journal::What;
+use pool_state::{Plan, Standing, count_at, lower, raise, zeros};
+use std::alloc::Global;
+use std::cmp::Reverse;
+use std::collections::BTreeSet;
+
+/// What is kept of the pages that stand on others, and of the leaves, the resident pages but for root
+/// pages that no resident or loading page stands on.
+///
+/// A place is a count of entries with a page; that of the greatest count comes first, of equals that of
+/// the least page. A set searches each of its nodes from the front, where a page stands that was named
+/// just now, as most are that are put in; a victim is looked for from the last place on. Others than
+/// those that are told may stand among the places.
+#[derive(Debug, Drop)]
+pub struct Leaves {
+    /// By page: how many resident or loading pages stand on it.
+    pub lowers: Vec<u64>,
+    /// The places of the leaves that no live frame pins, as they were last named.
+    pub order: BTreeSet<(Reverse<u64>, u32)>,
+    /// The places, as they were installed, of leaves that a frame's moment covers and no frame pins by
+    /// name. They go into `order` once no moment covers them.
+    pub parked: BTreeSet<(Reverse<u64>, u32)>,
+}
+
+/// Puts the page among the places, at this count. After Memory all is as before.
+pub fn insert(
+    places: &mut BTreeSet<(Reverse<u64>, u32)>,
+    count: u64,
+    page: u32,
+) -> Result<(), Memory>
+    ensures wider { IsWider places.old places.new }
+    ensures ok { OnOk result (ranks places.new count page ≡ true) }
+{
+    places.insert((Reverse(count), page))?;
+    Ok(())
+}
+
+/// Removes the page from the places, at this count; answers whether it stood there.
+pub fn remove(places: &mut BTreeSet<(Reverse<u64>, u32)>, count: u64, page: u32) -> bool
+    ensures stood { result ≡ ranks places.old count page }
+    ensures removed { Removes places.old places.new count page }
+{
+    places.remove(&(Reverse(count), page))
+}
+
+/// Whether the page stands among the places, at this count.
+pub fn stands(places: &BTreeSet<(Reverse<u64>, u32)>, count: u64, page: u32) -> bool
+    ensures { result ≡ ranks places.now count page }
+{
+    places.contains(&(Reverse(count), page))
+}
+
+/// Counts one more at each of the pages.
+fn raise_all(counts: &mut [u64], pages: &[u32])
+    ensures len { length counts.new ≡ length counts.old }
+    ensures counts { (p : ℕ) → p < length counts.old → slice_index_or counts.new p 0
+        ≡ min (slice_index_or counts.old p 0 + count_by (λ q. nat_eq q p) pages.now) (2 ^ 64 - 1) }
+{
+    for page in pages {
+        raise(counts, *page);
+    }
+}
+
+/// Counts one less at each of the pages.
+fn lower_all(counts: &mut [u64], pages: &[u32])
+    ensures len { length counts.new ≡ length counts.old }
+    ensures counts { (p : ℕ) → p < length counts.old → slice_index_or counts.new p 0
+        ≡ slice_index_or counts.old p 0 - count_by (λ q. nat_eq q p) pages.now }
+{
+    for page in pages {
+        lower(counts, *page);
+    }
+}
+
+impl Leaves {
+    /// Before any entry: the root pages are resident.
+    pub fn opening(alloc: Global, layout: &Plan) -> Result<Leaves, Memory>
+        ensures lowers { InBounds layout.now →
+            IfOk result (λ leaves. CountsLowers layout.now (is_held (opening layout.now))
+            leaves.lowers.items) }
+    {
+        let mut leaves = Leaves {
+            lowers: zeros(alloc, layout.pages())?,
+            order: BTreeSet::new(alloc),
+            parked: BTreeSet::new(alloc),
+        };
+        for root in 0..layout.roots() {
+            leaves.begin(layout, root);
+        }
+        Ok(leaves)
+    }
+
+    /// Whether some resident or loading page stands on this one.
+    pub fn is_stood_on(&self, page: u32) -> bool
+        ensures { (layout : Layout) (s : State) →
+            CountsLowers layout (is_held s) self.now.lowers.items → page < layout.pages →
+            result ≡ is_stood_on layout s page }
+    {
+        count_at(&self.lowers, page) > 0
+    }
+
+    /// Whether the page is resident and no root page, and no resident or loading page stands on it.
+    pub fn is_leaf(&self, layout: &Plan, standing: &Standing, page: u32) -> bool
+        ensures { (frames : List Frame) →
+            CountsLowers layout.now (is_held (shown standing.now frames)) self.now.lowers.items →
+            length standing.now.places.resident.items ≡ layout.now.pages →
+            result ≡ is_leaf layout.now (shown standing.now frames) page }
+    {
+        if !standing.is_resident(page) {
+            return false;
+        }
+        page >= layout.roots() && !self.is_stood_on(page)
+    }
+
+    /// Counts a page that is resident or being loaded from now on at each of its uppers.
+    fn begin(&mut self, layout: &Plan, page: u32)
+        ensures lowers { (held held' : ℕ → Bool) → InBounds layout.now →
+            Begins layout.now held held' page → CountsLowers layout.now held self.old.lowers.items →
+            CountsLowers layout.now held' self.new.lowers.items }
+        ensures order { self.new.order ≡ self.old.order }
+        ensures parked { self.new.parked ≡ self.old.parked }
+    {
+        raise_all(&mut self.lowers, layout.uppers_of(page));
+    }
+
+    /// Counts a page that was resident or being loaded until now no more at its uppers.
+    fn end(&mut self, layout: &Plan, page: u32)
+        ensures lowers { (held held' : ℕ → Bool) → InBounds layout.now →
+            Begins layout.now held' held page → CountsLowers layout.now held self.old.lowers.items →
+            CountsLowers layout.now held' self.new.lowers.items }
+        ensures order { self.new.order ≡ self.old.order }
+        ensures parked { self.new.parked ≡ self.old.parked }
+    {
+        lower_all(&mut self.lowers, layout.uppers_of(page));
+    }
+
+    /// Counts as the pages are that are resident or being loaded after the entry.
+    pub fn follow(&mut self, layout: &Plan, what: &What)
+        ensures lowers { (s : State) (journal : List Entry) (by : ℕ) → InBounds layout.now →
+            IsSound layout.now s → allows layout.now s journal by what.now ≡ true →
+            CountsLowers layout.now (is_held s) self.old.lowers.items →
+            CountsLowers layout.now (is_held (changed s by what.now)) self.new.lowers.items }
+        ensures order { self.new.order ≡ self.old.order }
+        ensures parked { self.new.parked ≡ self.old.parked }
+    {
+        match what {
+            What::Take { page, victim, .. } => {
+                self.begin(layout, *page);
+                if let Some(victim) = victim {
+                    self.end(layout, *victim);
+                }
+            }
+            What::Fail { page, .. } | What::Spoil { page, .. } | What::Starve { page } => {
+                self.end(layout, *page);
+            }
+            _ => {}
+        }
+    }
+}

@@ -1,0 +1,357 @@
+ghost use Rattle.std.specs.Prelude.{◌≡◌, ℕ, List, true};
+ghost use Rattle.pool_state.specs.Agreement.{Agrees};
+ghost use Rattle.pool_rules.specs.Frame.{Frame};
+ghost use Rattle.pool_leaves.specs.Leaf.{is_leaf, ranks};
+ghost use Rattle.pool_state.specs.Naming.{IsUnnamed, names};
+ghost use Rattle.pool_leaves.specs.Parking.{Ranks};
+ghost use Rattle.pool_state.specs.Shown.{shown};
+ghost use Rattle.pool_rules.specs.State.{is_resident};
+ghost use Rattle.pool_leaves.specs.declared.leaves.Leaves.{Leaves};
+ghost use Rattle.journal.specs.declared.layouts.Layout.{Layout};
+
+use crate::leaves::{Leaves, remove, stands};
+use crate::releases::after;
+use journal::What;
+use pool_state::{Plan, Standing, count_at};
+use std::cmp::Reverse;
+use std::collections::BTreeSet;
+use std::ops::Bound;
+
+/// Lets a page that was parked at this count stand in order no more, where that is its own place.
+fn unorder(order: &mut BTreeSet<(Reverse<u64>, u32)>, standing: &Standing, since: u64, page: u32)
+    ensures { (layout : Layout) (entries : ℕ) (frames : List Frame) (leaves : Leaves) →
+        leaves.order ≡ order.old → ranks leaves.parked since page ≡ true →
+        Agrees entries frames standing.now → Ranks layout frames standing.now leaves →
+        Ranks layout frames standing.now (record leaves { order = order.new }) }
+{
+    if count_at(&standing.since, page) != since {
+        return;
+    }
+    if !standing.frames.is_covered(since) {
+        return;
+    }
+    remove(order, count_at(&standing.named, page), page);
+}
+
+/// Lets parked pages that a moment of this frame covers, and no other, stand in order no more.
+fn unsweep(
+    order: &mut BTreeSet<(Reverse<u64>, u32)>,
+    parked: &BTreeSet<(Reverse<u64>, u32)>,
+    standing: &Standing,
+    frame: u32,
+)
+    ensures { (layout : Layout) (entries : ℕ) (frames : List Frame) (leaves : Leaves) →
+        leaves.order ≡ order.old → leaves.parked ≡ parked.now →
+        Agrees entries frames standing.now → Ranks layout frames standing.now leaves →
+        Ranks layout frames standing.now (record leaves { order = order.new }) }
+{
+    let start = after(standing.frames.moment_without(frame));
+    for place in parked.range(..=(Reverse(start), u32::MAX)) {
+        let (Reverse(since), page) = *place;
+        unorder(order, standing, since, page);
+    }
+}
+
+/// Of the places from this count on the last, that of the least count: the count and the page.
+fn last_from(order: &BTreeSet<(Reverse<u64>, u32)>, start: u64) -> Option<(u64, u32)> {
+    match order.range(..=(Reverse(start), u32::MAX)).next_back() {
+        Some((Reverse(count), page)) => Some((*count, *page)),
+        None => None,
+    }
+}
+
+impl Leaves {
+    /// Lets a page that is no leaf, or that some frame pins by name, stand nowhere.
+    fn clear(&mut self, standing: &Standing, page: u32)
+        ensures { (layout : Layout) (entries : ℕ) (frames : List Frame) →
+            Agrees entries frames standing.now → Ranks layout frames standing.now self.old →
+            (is_leaf layout (shown standing.now frames) page ≡ true →
+            IsUnnamed (names standing.now.frames.holds) page → ⊥) →
+            Ranks layout frames standing.now self.new }
+    {
+        remove(&mut self.order, count_at(&standing.named, page), page);
+        remove(&mut self.parked, count_at(&standing.since, page), page);
+    }
+
+    /// Lets a leaf that no frame pins by name stand in one place: parked where a moment covers it, and
+    /// else in order.
+    fn thin(&mut self, standing: &Standing, page: u32)
+        ensures { (layout : Layout) (entries : ℕ) (frames : List Frame) →
+            Agrees entries frames standing.now → Ranks layout frames standing.now self.old →
+            IsUnnamed (names standing.now.frames.holds) page →
+            is_resident (shown standing.now frames) page ≡ true →
+            Ranks layout frames standing.now self.new }
+    {
+        let since = count_at(&standing.since, page);
+        if !standing.frames.is_covered(since) {
+            remove(&mut self.parked, since, page);
+        } else if stands(&self.parked, since, page) {
+            remove(&mut self.order, count_at(&standing.named, page), page);
+        }
+    }
+
+    /// Lets the page stand in no place but its own. A root page stands nowhere.
+    fn tidy(&mut self, layout: &Plan, standing: &Standing, page: u32)
+        ensures { (entries : ℕ) (frames : List Frame) → Agrees entries frames standing.now →
+            Ranks layout.now frames standing.now self.old →
+            Ranks layout.now frames standing.now self.new }
+    {
+        if page < layout.roots() {
+            return;
+        }
+        if standing.frames.is_named(page) {
+            self.clear(standing, page);
+        } else if self.is_leaf(layout, standing, page) {
+            self.thin(standing, page);
+        } else {
+            self.clear(standing, page);
+        }
+    }
+
+    /// Lets each upper of the page stand in no place but its own. One that more than one page stands on,
+    /// or that some frame pins by name, stands nowhere.
+    fn tidy_uppers(&mut self, layout: &Plan, standing: &Standing, page: u32)
+        ensures { (entries : ℕ) (frames : List Frame) → Agrees entries frames standing.now →
+            Ranks layout.now frames standing.now self.old →
+            Ranks layout.now frames standing.now self.new }
+    {
+        for upper in layout.uppers_of(page) {
+            if self.is_baring(layout, standing, *upper) {
+                self.tidy(layout, standing, *upper);
+            }
+        }
+    }
+
+    /// Lets a page that was installed just now stand in order no more, where some frame pins it by name.
+    fn unorder_named(&mut self, standing: &Standing, page: u32)
+        ensures { (layout : Layout) (entries : ℕ) (frames : List Frame) →
+            Agrees entries frames standing.now → Ranks layout frames standing.now self.old →
+            Ranks layout frames standing.now self.new }
+    {
+        if standing.frames.is_named(page) {
+            remove(&mut self.order, count_at(&standing.named, page), page);
+        }
+    }
+
+    /// Lets the page be parked no more, where some frame pins it by name.
+    fn unpark_page(&mut self, standing: &Standing, page: u32)
+        ensures { (layout : Layout) (entries : ℕ) (frames : List Frame) →
+            Agrees entries frames standing.now → Ranks layout frames standing.now self.old →
+            Ranks layout frames standing.now self.new }
+    {
+        if standing.frames.is_named(page) {
+            remove(&mut self.parked, count_at(&standing.since, page), page);
+        }
+    }
+
+    /// Lets those of the pages be parked no more that some frame pins by name.
+    fn unpark_named(&mut self, standing: &Standing, pages: &[u32])
+        ensures { (layout : Layout) (entries : ℕ) (frames : List Frame) →
+            Agrees entries frames standing.now → Ranks layout frames standing.now self.old →
+            Ranks layout frames standing.now self.new }
+    {
+        // Mostly none is parked, and then nothing is looked up.
+        if self.parked.is_empty() {
+            return;
+        }
+        for page in pages {
+            self.unpark_page(standing, *page);
+        }
+    }
+
+    /// Lets pages that no moment covers be parked no more.
+    fn unpark(&mut self, standing: &Standing)
+        ensures { (layout : Layout) (entries : ℕ) (frames : List Frame) →
+            Agrees entries frames standing.now → Ranks layout frames standing.now self.old →
+            Ranks layout frames standing.now self.new }
+    {
+        for _ in 0..self.parked.len() {
+            let Some(place) = self.parked.first() else {
+                return;
+            };
+            let (Reverse(since), page) = *place;
+            if standing.frames.is_covered(since) {
+                return;
+            }
+            remove(&mut self.parked, since, page);
+        }
+    }
+
+    /// Lets the page stand in order no more as one that was named at this count, unless it was; answers
+    /// whether it wasn't.
+    fn forget(&mut self, standing: &Standing, count: u64, page: u32) -> bool
+        ensures { (layout : Layout) (entries : ℕ) (frames : List Frame) →
+            Agrees entries frames standing.now → Ranks layout frames standing.now self.old →
+            Ranks layout frames standing.now self.new }
+    {
+        if count_at(&standing.named, page) == count {
+            return false;
+        }
+        remove(&mut self.order, count, page);
+        true
+    }
+
+    /// Lets the page of the last place stand there no more, unless it was named then; answers whether it
+    /// wasn't.
+    fn forget_last(&mut self, standing: &Standing) -> bool
+        ensures { (layout : Layout) (entries : ℕ) (frames : List Frame) →
+            Agrees entries frames standing.now → Ranks layout frames standing.now self.old →
+            Ranks layout frames standing.now self.new }
+    {
+        let Some(place) = self.order.last() else {
+            return false;
+        };
+        let (Reverse(count), page) = *place;
+        if count_at(&standing.named, page) == count {
+            return false;
+        }
+        self.order.pop_last();
+        true
+    }
+
+    /// The same for the last of the places from this count on.
+    fn forget_last_from(&mut self, standing: &Standing, start: u64) -> bool
+        ensures { (layout : Layout) (entries : ℕ) (frames : List Frame) →
+            Agrees entries frames standing.now → Ranks layout frames standing.now self.old →
+            Ranks layout frames standing.now self.new }
+    {
+        // Mostly no live frame has a moment, and then no place has to be looked for.
+        if start == 0 {
+            return self.forget_last(standing);
+        }
+        match last_from(&self.order, start) {
+            Some((count, page)) => self.forget(standing, count, page),
+            None => false,
+        }
+    }
+
+    /// Lets pages that were named again since stand in the last places no more, of those from this count
+    /// on, back to the last whose page wasn't.
+    fn drop_last(&mut self, standing: &Standing, start: u64)
+        ensures { (layout : Layout) (entries : ℕ) (frames : List Frame) →
+            Agrees entries frames standing.now → Ranks layout frames standing.now self.old →
+            Ranks layout frames standing.now self.new }
+    {
+        for _ in 0..self.order.len() {
+            if !self.forget_last_from(standing, start) {
+                return;
+            }
+        }
+    }
+
+    /// Lets pages that were named again since stand in no place from this count on.
+    fn drop_from(&mut self, standing: &Standing, start: u64)
+        ensures { (layout : Layout) (entries : ℕ) (frames : List Frame) →
+            Agrees entries frames standing.now → Ranks layout frames standing.now self.old →
+            Ranks layout frames standing.now self.new }
+    {
+        let mut end = Bound::Included((Reverse(start), u32::MAX));
+        for _ in 0..self.order.len() {
+            let Some(place) = self.order.range((Bound::Unbounded, end)).next_back() else {
+                return;
+            };
+            let (Reverse(count), page) = *place;
+            self.forget(standing, count, page);
+            end = Bound::Excluded((Reverse(count), page));
+        }
+    }
+
+    /// Lets pages that were named again since stand in no place, where there are more than twice as many
+    /// places as pages.
+    fn drop_many(&mut self, layout: &Plan, standing: &Standing)
+        ensures { (entries : ℕ) (frames : List Frame) → Agrees entries frames standing.now →
+            Ranks layout.now frames standing.now self.old →
+            Ranks layout.now frames standing.now self.new }
+    {
+        if self.order.len() as u64 > 2 * u64::from(layout.pages()) {
+            self.drop_from(standing, 0);
+        }
+    }
+
+    /// Lets these pages, which were named again, and those that no moment covers be parked no more, and
+    /// pages that were named again since stand in none of the last places.
+    fn prune_named(&mut self, layout: &Plan, standing: &Standing, pages: &[u32])
+        ensures { (entries : ℕ) (frames : List Frame) → Agrees entries frames standing.now →
+            Ranks layout.now frames standing.now self.old →
+            Ranks layout.now frames standing.now self.new }
+    {
+        self.unpark_named(standing, pages);
+        self.unpark(standing);
+        self.drop_last(standing, after(standing.frames.last_moment()));
+        self.drop_many(layout, standing);
+    }
+
+    /// Lets the victim, and the uppers of the page that is being loaded, stand in no place but their own,
+    /// and pages that were named again since in none of the last places.
+    fn prune_taken(&mut self, layout: &Plan, standing: &Standing, page: u32, victim: Option<u32>)
+        ensures { (entries : ℕ) (frames : List Frame) → Agrees entries frames standing.now →
+            Ranks layout.now frames standing.now self.old →
+            Ranks layout.now frames standing.now self.new }
+    {
+        self.tidy_uppers(layout, standing, page);
+        if let Some(victim) = victim {
+            self.tidy(layout, standing, victim);
+            self.drop_last(standing, after(standing.frames.last_moment()));
+        }
+    }
+
+    /// After the entry, lets pages stand in no place but their own. A place at which a page stood before
+    /// it was named again may stay until it is the last, where a search begins.
+    pub fn prune(&mut self, layout: &Plan, standing: &Standing, what: &What)
+        ensures { (entries : ℕ) (frames : List Frame) → Agrees entries frames standing.now →
+            Ranks layout.now frames standing.now self.old →
+            Ranks layout.now frames standing.now self.new }
+    {
+        match what {
+            What::Settle { pages, .. } | What::Narrow { pages, .. } => {
+                self.prune_named(layout, standing, pages.as_slice());
+            }
+            What::Unpin { .. } => self.unpark(standing),
+            What::Install { page, .. } => self.unorder_named(standing, *page),
+            What::Take { page, victim, .. } => self.prune_taken(layout, standing, *page, *victim),
+            What::Full { .. } => {
+                self.drop_from(standing, after(standing.frames.last_moment()));
+            }
+            _ => {}
+        }
+    }
+
+    /// Lets what the frame pins by name stand nowhere.
+    fn hold_back(&mut self, layout: &Plan, standing: &Standing, frame: u32)
+        ensures { (entries : ℕ) (frames : List Frame) → Agrees entries frames standing.now →
+            Ranks layout.now frames standing.now self.old →
+            Ranks layout.now frames standing.now self.new }
+    {
+        let Some(hold) = standing.frames.holds.get(&frame) else {
+            return;
+        };
+        for page in hold.pages.iter() {
+            self.tidy(layout, standing, *page);
+        }
+    }
+
+    /// Lets pages stand where they stood before an entry that had no memory.
+    pub fn withdraw(&mut self, layout: &Plan, standing: &Standing, what: &What)
+        ensures { (entries : ℕ) (frames : List Frame) → Agrees entries frames standing.now →
+            Ranks layout.now frames standing.now self.old →
+            Ranks layout.now frames standing.now self.new }
+    {
+        match what {
+            What::Settle { frame, .. } | What::Narrow { frame, .. } | What::Unpin { frame } => {
+                self.hold_back(layout, standing, *frame);
+                unsweep(&mut self.order, &self.parked, standing, *frame);
+            }
+            What::Install { page, .. } => {
+                self.forget(standing, standing.entries.saturating_add(1), *page);
+            }
+            What::Take {
+                victim: Some(page),
+                ..
+            }
+            | What::Fail { page, .. }
+            | What::Spoil { page, .. }
+            | What::Starve { page } => self.tidy_uppers(layout, standing, *page),
+            _ => {}
+        }
+    }
+}

@@ -1,0 +1,4 @@
+pub mod Examples
+pub mod Offering
+pub mod Pairs
+pub mod Touched

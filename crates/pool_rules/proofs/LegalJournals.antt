@@ -1,0 +1,47 @@
+-- A journal with one entry more: its state, and that it is legal.
+use Rattle.std.proofs.Common.{◌≡◌, ℕ, ◌+◌, List, [], ◌∷◌, ◌++◌, Bool, true, false, Option, None, Some, length, refl, ap, arith, append_assoc, append-nil, fold}
+use Rattle.std.proofs.lemmas.List.Sums.{fold_push}
+use Rattle.journal.specs.declared.entries.Entry.{Entry}
+use Rattle.journal.specs.declared.layouts.Layout.{Layout}
+use Rattle.pool_rules.specs.Rules.{is_allowed, refused_or, first_refused_after, IsLegal}
+use Rattle.pool_rules.specs.State.{State, opening, after, state_of}
+
+pub state_of-push : (layout : Layout) (journal : List Entry) (e : Entry) → state_of layout (journal ++ e ∷ []) ≡ after (state_of layout journal) e
+state_of-push layout journal e = fold_push after (opening layout) journal e
+
+-- the count of entries is the journal's length
+entries-from : (journal : List Entry) (s : State) → (fold after s journal).entries ≡ s.entries + length journal
+entries-from [] s = omega arith
+entries-from (e ∷ journal) s = omega (arith, entries-from journal (after s e))
+
+pub entries-state_of : (layout : Layout) (journal : List Entry) → (state_of layout journal).entries ≡ length journal
+entries-state_of layout journal = omega (arith, entries-from journal (opening layout))
+
+-- where the first of some entries is allowed, and the others after it, so are they all
+pub refused_or-none : (t : Bool) (n : ℕ) (later : Option ℕ) → refused_or t n later ≡ None → (t ≡ true) × (later ≡ None)
+refused_or-none true n later h = (refl, h)
+refused_or-none false n later h = cc
+
+none-refused_or : (t : Bool) (n : ℕ) (later : Option ℕ) → t ≡ true → later ≡ None → refused_or t n later ≡ None
+none-refused_or true n later h none = none
+none-refused_or false n later h none = cc
+
+legal-after : (layout : Layout) (before entries : List Entry) (e : Entry) → first_refused_after layout before entries ≡ None → is_allowed layout (before ++ entries) e ≡ true → first_refused_after layout before (entries ++ e ∷ []) ≡ None
+legal-after layout before [] e legal allowed =
+    let here : is_allowed layout before e ≡ true = rw append-nil at allowed in
+    none-refused_or (is_allowed layout before e) (length before) None here refl
+legal-after layout before (x ∷ entries) e legal allowed =
+    let parts = refused_or-none (is_allowed layout before x) (length before) (first_refused_after layout (before ++ x ∷ []) entries) legal in
+    none-refused_or (is_allowed layout before x) (length before) (first_refused_after layout (before ++ x ∷ []) (entries ++ e ∷ [])) parts.0 (legal-after layout (before ++ x ∷ []) entries e parts.1 (rw append_assoc allowed))
+
+-- a legal journal with an allowed entry more is legal
+pub IsLegal-push : (layout : Layout) (journal : List Entry) (e : Entry) → IsLegal layout journal → is_allowed layout journal e ≡ true → IsLegal layout (journal ++ e ∷ [])
+IsLegal-push layout journal e legal allowed = legal-after layout [] journal e legal allowed
+
+pub refused-here : (layout : Layout) (before rest : List Entry) (e : Entry) → is_allowed layout before e ≡ false → first_refused_after layout before (e ∷ rest) ≡ Some (length before)
+refused-here layout before rest e h =
+    ap (λ b. refused_or b (length before) (first_refused_after layout (before ++ e ∷ []) rest)) h
+
+pub allowed-here : (layout : Layout) (before rest : List Entry) (e : Entry) → is_allowed layout before e ≡ true → first_refused_after layout before (e ∷ rest) ≡ first_refused_after layout (before ++ e ∷ []) rest
+allowed-here layout before rest e h =
+    ap (λ b. refused_or b (length before) (first_refused_after layout (before ++ e ∷ []) rest)) h

@@ -1,0 +1,11 @@
+pub mod Allowed
+pub mod Choices
+pub mod Examples
+pub mod Flags
+pub mod LegalJournals
+pub mod Pinned
+pub mod Ranges
+pub mod RuleExamples
+pub mod Soundness
+pub mod Stalest
+pub mod Tests

@@ -1,0 +1,6 @@
+pub mod Frame
+pub mod Next
+pub mod Rules
+pub mod Sound
+pub mod State
+pub mod Victim

@@ -1,0 +1,119 @@
+-- Which entry may stand next in a journal, and which journals are legal.
+use Rattle.std.specs.Prelude.{◌≡◌, ◌==◌, ◌-◌, ◌^◌, ◌&&◌, ◌||◌, ℕ, Bool, true, false, not, List, [], ◌∷◌, ◌++◌, length, fold, nat_eq, nat_lt, nat_le, Option, None, Some, slice_index_or}
+use Rattle.std.specs.List.{list_all, list_any}
+use lib.Pointwise.{pointwise}
+use Rattle.journal.specs.declared.entries.Entry.{Entry}
+use Rattle.journal.specs.declared.entries.Spoilt.{Spoilt}
+use Rattle.journal.specs.declared.entries.Spoilt.TheVariants.{Digest, Grammar, Short}
+use Rattle.journal.specs.declared.entries.What.{What}
+use Rattle.journal.specs.declared.entries.What.TheVariants.{Pin, Settle, Ask, Narrow, Unpin, Take, Install, Fail, Spoil, Starve, Full, Stop}
+use Rattle.journal.specs.declared.layouts.Layout.{Layout}
+use Rattle.journal.specs.Layout.{ascends, all_below}
+use Rattle.pool_rules.specs.Next.{next_in, is_take, is_full}
+use Rattle.pool_rules.specs.State.{State, is_resident, state_of}
+
+-- whether the frame is live and owned by this maker
+abbrev pub owns : State → ℕ → ℕ → Bool
+owns s by frame = list_any (λ f. (f.number == frame) && (f.owner == by)) s.frames
+
+-- whether the frame pins the page
+abbrev pub pins : State → ℕ → ℕ → Bool
+pins s frame page = list_any (λ f. (f.number == frame) && slice_index_or f.pins page false) s.frames
+
+-- whether this maker is loading the page
+abbrev pub is_maker : Option ℕ → ℕ → Bool
+is_maker None by = false
+is_maker (Some maker) by = maker == by
+
+abbrev pub loads : State → ℕ → ℕ → Bool
+loads s by page = is_maker (slice_index_or s.loading page None) by
+
+-- whether the frame has an entry: one that names it
+abbrev pub is_entry_of : ℕ → What → Bool
+is_entry_of f (Pin frame) = frame == f
+is_entry_of f (Settle frame pages missing) = frame == f
+is_entry_of f (Ask frame pages) = frame == f
+is_entry_of f (Narrow frame pages) = frame == f
+is_entry_of f (Unpin frame) = frame == f
+is_entry_of f (Take (Some frame) page victim) = frame == f
+is_entry_of f (Full frame) = frame == f
+is_entry_of f _ = false
+
+abbrev pub has_entry : ℕ → List Entry → Bool
+has_entry frame journal = list_any (λ e. is_entry_of frame e.what) journal
+
+-- the count of faults after a Fail of this maker; any other entry leaves the last one
+abbrev pub after_fail : Bool → What → ℕ → ℕ
+after_fail true (Fail page before after) last = after
+after_fail _ _ last = last
+
+-- the count of faults after the maker's last Fail, 0 where it has none
+abbrev pub last_after : ℕ → List Entry → ℕ
+last_after by journal = fold (λ last e. after_fail (e.by == by) e.what last) 0 journal
+
+-- pages that ascend, each below the number of pages
+abbrev pub is_page_list : Layout → List ℕ → Bool
+is_page_list layout pages = ascends pages && all_below layout.pages pages
+
+abbrev pub all_resident : State → List ℕ → Bool
+all_resident s pages = list_all (is_resident s) pages
+
+abbrev pub any_resident : State → List ℕ → Bool
+any_resident s pages = list_any (is_resident s) pages
+
+-- the count of faults rose, or stays at its greatest
+abbrev pub rose : ℕ → ℕ → Bool
+rose before after = nat_lt before after || ((before == 2 ^ 64 - 1) && (after == 2 ^ 64 - 1))
+
+-- whether the bytes were wrong in the way that is told
+abbrev pub is_wrong : Spoilt → Bool
+is_wrong (Digest stated found) = not (pointwise nat_eq stated.bytes found.bytes)
+is_wrong (Grammar rule offset) = nat_le 1 rule && (nat_le rule 4 && nat_lt offset 65536)
+is_wrong (Short got) = nat_lt got 65536
+
+-- the table of entries: whether a maker may enter this after the journal, which leaves the state s
+abbrev pub allows : Layout → State → List Entry → ℕ → What → Bool
+allows layout s journal by (Pin frame) = owns s by frame || not (has_entry frame journal)
+allows layout s journal by (Settle frame pages missing) =
+    owns s by frame
+    && (is_page_list layout pages
+    && (is_page_list layout missing && (all_resident s pages && not (any_resident s missing))))
+allows layout s journal by (Ask frame pages) =
+    owns s by frame && (is_page_list layout pages && not (any_resident s pages))
+allows layout s journal by (Narrow frame pages) =
+    owns s by frame && (ascends pages && list_all (pins s frame) pages)
+allows layout s journal by (Unpin frame) = owns s by frame
+allows layout s journal by (Take None page victim) =
+    not s.stopped && is_take (next_in layout s None) page victim
+allows layout s journal by (Take (Some frame) page victim) =
+    not s.stopped && (is_take (next_in layout s (Some frame)) page victim && owns s by frame)
+allows layout s journal by (Install page digest) = loads s by page
+allows layout s journal by (Fail page before after) =
+    loads s by page && (rose before after && nat_le (last_after by journal) before)
+allows layout s journal by (Spoil page why) = loads s by page && is_wrong why
+allows layout s journal by (Starve page) = loads s by page
+allows layout s journal by (Full frame) =
+    not s.stopped && (owns s by frame && is_full (next_in layout s (Some frame)))
+allows layout s journal by Stop = not s.stopped
+
+-- whether the entry may stand next after the journal
+abbrev pub is_allowed : Layout → List Entry → Entry → Bool
+is_allowed layout journal entry = allows layout (state_of layout journal) journal entry.by entry.what
+
+abbrev pub refused_or : Bool → ℕ → Option ℕ → Option ℕ
+refused_or true place later = later
+refused_or false place later = Some place
+
+-- the place of the first of these entries that isn't allowed after those before it
+abbrev pub first_refused_after : Layout → List Entry → List Entry → Option ℕ
+first_refused_after layout before [] = None
+first_refused_after layout before (entry ∷ entries) =
+    refused_or (is_allowed layout before entry) (length before)
+    (first_refused_after layout (before ++ entry ∷ []) entries)
+
+abbrev pub first_refused : Layout → List Entry → Option ℕ
+first_refused layout journal = first_refused_after layout [] journal
+
+-- a legal journal: each entry is allowed after the entries before it
+abbrev pub IsLegal : Layout → List Entry → Type 0
+IsLegal layout journal = first_refused layout journal ≡ None

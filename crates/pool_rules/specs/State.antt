@@ -1,0 +1,163 @@
+-- How the pool stands after a journal: a fold over its entries, from the oldest on.
+use Rattle.std.specs.Prelude.{◌==◌, ◌+◌, ◌&&◌, ◌||◌, ℕ, Bool, true, false, not, List, [], ◌∷◌, ◌++◌, length, map, filter, fold, nat_lt, replicate, if◌then◌else◌, Option, None, Some, is_some, count_by, slice_set, slice_index_or}
+use Rattle.std.specs.List.{list_any}
+use Rattle.journal.specs.declared.entries.Entry.{Entry}
+use Rattle.journal.specs.declared.entries.What.{What}
+use Rattle.journal.specs.declared.entries.What.TheVariants.{Pin, Settle, Ask, Narrow, Unpin, Take, Install, Fail, Spoil, Starve, Stop}
+use Rattle.pool_rules.specs.Frame.{Frame}
+use Rattle.pool_rules.specs.declared.wants.Want.{Want}
+use Rattle.journal.specs.declared.layouts.Layout.{Layout}
+use Rattle.journal.specs.Layout.{page_numbers}
+
+-- a list by page has an item for each page, in the order of their numbers
+pub record State : Type 0 where
+  -- by page: whether it is resident
+  pub resident : List Bool
+  -- by page: the maker that is loading it, if one is
+  pub loading : List (Option ℕ)
+  -- the live frames, each with its owner and its pins
+  pub frames : List Frame
+  -- the pages that frames want, the oldest want first
+  pub wants : List Want
+  -- by page: how many entries there were when one last named it, that one with them; 0 where none did
+  pub named : List ℕ
+  -- whether a Stop stands
+  pub stopped : Bool
+  -- how many entries there are
+  pub entries : ℕ
+
+abbrev pub is_resident : State → ℕ → Bool
+is_resident s page = slice_index_or s.resident page false
+
+abbrev pub is_loading : State → ℕ → Bool
+is_loading s page = is_some (slice_index_or s.loading page None)
+
+-- whether the page is resident or being loaded
+abbrev pub is_held : State → ℕ → Bool
+is_held s page = is_resident s page || is_loading s page
+
+-- how many pages are resident, and how many are being loaded
+abbrev pub held_count : State → ℕ
+held_count s = count_by (λ resident. resident) s.resident + count_by is_some s.loading
+
+-- whether the frame is live
+abbrev pub is_live : List Frame → ℕ → Bool
+is_live frames frame = list_any (λ f. f.number == frame) frames
+
+-- whether the frame waits for the page: it has a want of it from a Settle
+abbrev pub waits_for : List Want → ℕ → ℕ → Bool
+waits_for wants frame page = list_any (λ w. (w.frame == frame) && ((w.page == page) && w.settled)) wants
+
+-- the list by page that marks these pages alone
+abbrev pub marked : ℕ → List ℕ → List Bool
+marked pages numbers = fold (λ marks page. slice_set marks page true) (replicate pages false) numbers
+
+-- before any entry the root pages are resident
+abbrev pub opening : Layout → State
+opening layout = record {
+  resident = map (λ page. nat_lt page layout.roots) (page_numbers layout);
+  loading = replicate layout.pages None;
+  frames = [];
+  wants = [];
+  named = replicate layout.pages 0;
+  stopped = false;
+  entries = 0;
+}
+
+-- Resident: Take removes its victim, Install adds its page
+abbrev pub resident_after : What → List Bool → List Bool
+resident_after (Take frame page (Some victim)) resident = slice_set resident victim false
+resident_after (Install page digest) resident = slice_set resident page true
+resident_after _ resident = resident
+
+-- Loading: Take adds its page with its maker, the end of a load removes it
+abbrev pub loading_after : ℕ → What → List (Option ℕ) → List (Option ℕ)
+loading_after by (Take frame page victim) loading = slice_set loading page (Some by)
+loading_after by (Install page digest) loading = slice_set loading page None
+loading_after by (Fail page before after) loading = slice_set loading page None
+loading_after by (Spoil page why) loading = slice_set loading page None
+loading_after by (Starve page) loading = slice_set loading page None
+loading_after by _ loading = loading
+
+-- the frame in the place of the one of its number, or at the end
+abbrev pub put : Frame → List Frame → List Frame
+put frame [] = frame ∷ []
+put frame (f ∷ frames) = if f.number == frame.number then frame ∷ frames else f ∷ put frame frames
+
+-- the frame, which also pins the page where it waits for it
+abbrev pub with_installed : List Want → ℕ → Frame → Frame
+with_installed wants page f =
+    if waits_for wants f.number page then record f { pins = slice_set f.pins page true } else f
+
+-- Live frames and their pins: Pin makes its frame live, owned by the maker, and pins what is resident;
+-- Settle and Narrow, which only the owner makes, pin their pages instead; Unpin ends the frame
+abbrev pub frames_after : State → ℕ → What → List Frame
+frames_after s by (Pin frame) =
+    put (record { number = frame; owner = by; pins = s.resident }) s.frames
+frames_after s by (Settle frame pages missing) =
+    put (record { number = frame; owner = by; pins = marked (length s.resident) pages }) s.frames
+frames_after s by (Narrow frame pages) =
+    put (record { number = frame; owner = by; pins = marked (length s.resident) pages }) s.frames
+frames_after s by (Unpin frame) = filter (λ f. not (f.number == frame)) s.frames
+frames_after s by (Install page digest) = map (with_installed s.wants page) s.frames
+frames_after s by _ = s.frames
+
+-- the wants of other frames than this one that are live
+abbrev pub wants_of_others : State → ℕ → List Want
+wants_of_others s frame = filter (λ w. not (w.frame == frame) && is_live s.frames w.frame) s.wants
+
+-- a want of each of the pages, in order
+abbrev pub wants_of : ℕ → Bool → List ℕ → List Want
+wants_of frame settled pages = map (λ page. record { frame = frame; page = page; settled = settled }) pages
+
+abbrev pub wants_without : ℕ → List Want → List Want
+wants_without page wants = filter (λ w. not (w.page == page)) wants
+
+-- Wants: Settle and Ask put theirs behind those of the other live frames, the end of a load removes
+-- all wants of its page
+abbrev pub wants_after : State → What → List Want
+wants_after s (Settle frame pages missing) = wants_of_others s frame ++ wants_of frame true missing
+wants_after s (Ask frame pages) = wants_of_others s frame ++ wants_of frame false pages
+wants_after s (Install page digest) = wants_without page s.wants
+wants_after s (Fail page before after) = wants_without page s.wants
+wants_after s (Spoil page why) = wants_without page s.wants
+wants_after s (Starve page) = wants_without page s.wants
+wants_after s _ = s.wants
+
+abbrev pub name_at : ℕ → List ℕ → List ℕ → List ℕ
+name_at place pages named = fold (λ all page. slice_set all page place) named pages
+
+-- Named: Settle and Narrow name their pages, Install its page
+abbrev pub named_after : State → What → List ℕ
+named_after s (Settle frame pages missing) = name_at (s.entries + 1) pages s.named
+named_after s (Narrow frame pages) = name_at (s.entries + 1) pages s.named
+named_after s (Install page digest) = name_at (s.entries + 1) (page ∷ []) s.named
+named_after s _ = s.named
+
+abbrev pub stopped_after : What → Bool → Bool
+stopped_after Stop stopped = true
+stopped_after _ stopped = stopped
+
+-- what an entry changes, but for the count of entries
+abbrev pub changed : State → ℕ → What → State
+changed s by what = record {
+  resident = resident_after what s.resident;
+  loading = loading_after by what s.loading;
+  frames = frames_after s by what;
+  wants = wants_after s what;
+  named = named_after s what;
+  stopped = stopped_after what s.stopped;
+  entries = s.entries;
+}
+
+-- what an entry makes of the state
+abbrev pub after : State → Entry → State
+after s entry = record (changed s entry.by entry.what) { entries = s.entries + 1 }
+
+-- the state after a journal
+abbrev pub state_of : Layout → List Entry → State
+state_of layout journal = fold after (opening layout) journal
+
+-- the residency after a journal: the numbers of the resident pages, ascending
+abbrev pub residency : Layout → List Entry → List ℕ
+residency layout journal = filter (is_resident (state_of layout journal)) (page_numbers layout)

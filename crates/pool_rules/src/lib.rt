@@ -1,0 +1,13 @@
+//! The rules of the page pool, as definitions over its journal, and the laws that follow from them.
+//!
+//! What is resident, being loaded, pinned and wanted is a fold of the journal (`specs/State`), and so is
+//! what a loader may do next (`specs/Next`), which page is evicted (`specs/Victim`) and which entry may
+//! stand next (`specs/Rules`). The crate has no machine: `residency` keeps these rules.
+#![tactic(auto)]
+
+pub mod laws;
+mod nexts;
+mod wants;
+
+pub use nexts::Next;
+pub use wants::Want;

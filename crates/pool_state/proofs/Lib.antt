@@ -1,0 +1,13 @@
+pub mod Agreed
+pub mod Counts
+pub mod Examples
+pub mod Held
+pub mod Indexes
+pub mod Laid
+pub mod Named
+pub mod Numbered
+pub mod Ordered
+pub mod Queued
+pub mod Renewed
+pub mod Tickets
+pub mod Waiting

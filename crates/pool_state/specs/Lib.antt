@@ -1,0 +1,7 @@
+pub mod Agreement
+pub mod Holding
+pub mod Moved
+pub mod Naming
+pub mod Queue
+pub mod Row
+pub mod Shown

@@ -1,5 +1,0 @@
-use Rattle.residency.proofs.Soundness.{IsSound-state_of}
-use Rattle.residency.proofs.laws.legal_journals_are_sound.Goals as goal
-
-pub returns : goal.returns
-returns c = IsSound-state_of
