@@ -1,8 +1,9 @@
 -- Worked examples of leaves and their places, computed.
-use Rattle.std.proofs.Common.{◌≡◌, ℕ, ◌==◌, true, false, List, [], ◌∷◌, map, None, Some, not, refl}
+use Rattle.std.proofs.Common.{◌≡◌, ℕ, ◌==◌, true, false, List, [], ◌∷◌, inl, inr, map, None, Some, not, refl, arith}
 use Rattle.std.specs.declared.cmp.Ordering.TheVariants.{Less, Equal, Greater}
 use Rattle.journal.specs.declared.layouts.Layout.{Layout}
-use Rattle.pool_leaves.specs.Leaf.{count_on, fits, is_leaf, rank, rank_cmp}
+use Rattle.pool_leaves.specs.Leaf.{count_on, fits, is_counted_leaf, is_counted_live, is_leaf, is_live, rank, rank_cmp}
+use Rattle.pool_leaves.specs.Recent.{AreInTurn, IsBehind, first_of, is_recent}
 use Rattle.pool_rules.specs.State.{State, opening}
 
 -- Pages 1 and 3 stand on the root page, page 2 on page 1.
@@ -44,7 +45,21 @@ is_leaf_under_loading = refl
 pub is_leaf_pinned : map (is_leaf branch pinned_1) pages ≡ false ∷ true ∷ false ∷ false ∷ []
 is_leaf_pinned = refl
 
--- Places: the greatest count first.
+-- the counts of pages that stand on each say the same
+pub is_counted_leaf_each : map (is_counted_leaf (2 ∷ 1 ∷ 0 ∷ 0 ∷ []) branch loading_2) pages ≡ false ∷ false ∷ false ∷ false ∷ []
+is_counted_leaf_each = refl
+
+pub is_counted_leaf_bare : map (is_counted_leaf (1 ∷ 0 ∷ 0 ∷ 0 ∷ []) branch came_1) pages ≡ false ∷ true ∷ false ∷ false ∷ []
+is_counted_leaf_bare = refl
+
+-- a place is live where its page was last named, while that is a leaf
+pub is_live_each : is_live branch came_1 (4, 1) ∷ is_live branch came_1 (3, 1) ∷ is_live branch loading_2 (4, 1) ∷ [] ≡ true ∷ false ∷ false ∷ []
+is_live_each = refl
+
+pub is_counted_live_each : is_counted_live (1 ∷ 0 ∷ 0 ∷ 0 ∷ []) branch came_1 (4, 1) ∷ is_counted_live (2 ∷ 1 ∷ 0 ∷ 0 ∷ []) branch loading_2 (4, 1) ∷ [] ≡ true ∷ false ∷ []
+is_counted_live_each = refl
+
+-- Places in a set: the greatest count first.
 pub rank_cmp_count : rank_cmp (rank 7 9) (rank 5 1) ≡ Less
 rank_cmp_count = refl
 
@@ -70,3 +85,22 @@ fits_own_upper = refl
 -- nor where a frame pins it
 pub fits_pinned : fits branch pinned_1 3 (rank 4 1) ≡ false
 fits_pinned = refl
+
+-- Recent places: the least count first, of equals the greatest page.
+abbrev queue : List (ℕ × ℕ)
+queue = (5, 2) ∷ (7, 9) ∷ (7, 1) ∷ []
+
+pub queue_in_turn : AreInTurn queue
+queue_in_turn = ((inl (omega arith), (inl (omega arith), tt)), ((inr (refl, omega arith), tt), (tt, tt)))
+
+pub behind_all : IsBehind (8, 9) (7, 1)
+behind_all = inl (omega arith)
+
+pub is_recent_each : is_recent queue 7 9 ∷ is_recent queue 7 2 ∷ is_recent queue 5 2 ∷ [] ≡ true ∷ false ∷ true ∷ []
+is_recent_each = refl
+
+pub first_of_queue : first_of queue ≡ Some (5, 2)
+first_of_queue = refl
+
+pub first_of_none : first_of [] ≡ None
+first_of_none = refl

@@ -6,6 +6,7 @@ use Rattle.std.specs.BTreeSet.{BTreeSet, Updates, keys_between}
 use Rattle.std.specs.declared.ops.Bound.TheVariants.{Included, Unbounded}
 use Rattle.std.proofs.lemmas.Map.Views.{any-filter_same}
 use Rattle.std.specs.List.{list_any, list_all, slice_get}
+use Rattle.std.specs.Map.Iter.{TakesLast}
 use Rattle.std.specs.Ordering.{ordering_then, is_lt}
 use Rattle.std.specs.Prelude.{IfSome}
 use Rattle.std.specs.Result.{OnOk}
@@ -15,15 +16,16 @@ use Rattle.std.specs.declared.cmp.Reverse.{Reverse}
 use Rattle.std.proofs.Math.Seq.{get_or-append_seam}
 use Rattle.std.proofs.lemmas.List.{length-append}
 use Rattle.std.proofs.lemmas.Option.{get_or_from_slice_get, slice_get_within}
-use Rattle.std.proofs.lemmas.List.Folds.{list_any_more}
+use Rattle.std.proofs.lemmas.List.Folds.{list_any-append, list_any_more}
 use Rattle.std.proofs.lemmas.Bool.Decides.{nat_tests, Decides-eqb}
 use Rattle.journal.specs.declared.entries.What.{What}
 use Rattle.journal.specs.declared.entries.What.TheVariants.{Pin, Settle, Ask, Narrow, Unpin, Take, Install, Fail, Spoil, Starve, Full, Stop}
 use Rattle.journal.specs.declared.layouts.Layout.{Layout}
 use Rattle.journal.specs.Layout.{page_numbers, uppers_of, is_upper}
-use Rattle.pool_leaves.specs.Leaf.{Removes, rank, rank_cmp, ranks, is_leaf}
+use Rattle.pool_leaves.specs.Leaf.{CountsLowers, Removes, is_counted_leaf, is_counted_live, is_leaf, is_live, rank, rank_cmp, ranks}
 use Rattle.pool_rules.specs.State.{State, changed, is_resident, is_held, name_at}
-use Rattle.pool_rules.specs.Victim.{is_stood_on}
+use Rattle.pool_rules.specs.Victim.{is_stood_on, named_of}
+use Rattle.pool_leaves.proofs.Stood.{count-test}
 use Rattle.pool_state.proofs.Agreed.{name_at-len}
 use Rattle.pool_rules.proofs.Choices.{IsTaken}
 use Rattle.pool_rules.proofs.Flags.{get_or-set_cases, place-within}
@@ -123,6 +125,23 @@ leaf-parts layout s page h =
 pub leaf-whole : (layout : Layout) (s : State) (page : ℕ) → IsLeaf layout s page → is_leaf layout s page ≡ true
 leaf-whole layout s page leaf = rw (leaf.resident, leaf.inner, leaf.bare) refl
 
+-- a resident page is one of the pages
+pub below-pages : (layout : Layout) (s : State) (p : ℕ) → length s.resident ≡ layout.pages → is_resident s p ≡ true → p < layout.pages
+below-pages layout s p len here = omega (arith, len, place-within (λ (b : Bool). b) s.resident p false refl here)
+
+-- the counts tell leaves
+pub counted-leaf : (lowers : List ℕ) (layout : Layout) (s : State) (page : ℕ) → CountsLowers layout (is_held s) lowers → length s.resident ≡ layout.pages → is_counted_leaf lowers layout s page ≡ is_leaf layout s page
+counted-leaf lowers layout s page counts len =
+    elim (is_resident s page) as (λ b. is_resident s page ≡ b → (b && (not (nat_lt page layout.roots) && not (nat_lt 0 (get_or lowers page 0)))) ≡ (b && (not (nat_lt page layout.roots) && not (is_stood_on layout s page)))) [
+      | true ↦ λ here.
+          let stood : nat_lt 0 (get_or lowers page 0) ≡ is_stood_on layout s page = ap (nat_lt 0) (counts.counts page (below-pages layout s page len here)) ∙ count-test (λ q. is_held s q && is_upper layout page q) (page_numbers layout) in
+          ap (λ b. not (nat_lt page layout.roots) && not b) stood
+      | false ↦ λ none. refl
+    ] refl
+
+pub counted-live : (lowers : List ℕ) (layout : Layout) (s : State) (place : ℕ × ℕ) → CountsLowers layout (is_held s) lowers → length s.resident ≡ layout.pages → is_counted_live lowers layout s place ≡ is_live layout s place
+counted-live lowers layout s place counts len = ap (λ b. (named_of s place.1 == place.0) && b) (counted-leaf lowers layout s place.1 counts len)
+
 -- a page that is not stood on was not before, where what stood on it is held still
 pub bare-before : (layout : Layout) (s s' : State) (p : ℕ) → ((q : ℕ) → is_held s q ≡ true → is_upper layout p q ≡ true → is_held s' q ≡ true) → is_stood_on layout s' p ≡ false → is_stood_on layout s p ≡ false
 bare-before layout s s' p stays bare =
@@ -159,10 +178,6 @@ pub any-more : (page i : ℕ) (pages : List ℕ) → i < length pages → list_a
 any-more page i pages below h =
     ⊎_elim (λ old. inl old) (λ here. inr (same-eqb (get_or pages i 0) page here)) (or-cases (list_any (λ p. p == page) (take i pages)) (get_or pages i 0 == page) (sym (list_any_more (λ p. p == page) pages i 0 below) ∙ h))
 
--- a resident page is one of the pages
-pub below-pages : (layout : Layout) (s : State) (p : ℕ) → length s.resident ≡ layout.pages → is_resident s p ≡ true → p < layout.pages
-below-pages layout s p len here = omega (arith, len, place-within (λ (b : Bool). b) s.resident p false refl here)
-
 -- the lists by page keep their lengths
 pub named-len : (s : State) (by : ℕ) (what : What) → length (changed s by what).named ≡ length s.named
 named-len s by (Pin f) = refl
@@ -177,6 +192,19 @@ named-len s by (Spoil p why) = refl
 named-len s by (Starve p) = refl
 named-len s by (Full f) = refl
 named-len s by Stop = refl
+
+-- a call of `next_back` that gave an item, and one that gave none
+pub last-more : {A X : Type 0} (shows : A → X) (s t : List X) (r : Option A) (x : A) → r ≡ Some x → TakesLast shows s r t → s ≡ t ++ shows x ∷ []
+last-more shows s t r x is steps = subst (λ o. TakesLast shows s o t) is steps
+
+pub last-all : {A X : Type 0} (shows : A → X) (s t : List X) (r : Option A) → r ≡ None → TakesLast shows s r t → s ≡ []
+last-all shows s t r is steps = (subst (λ o. TakesLast shows s o t) is steps).0
+
+-- what some item passes, the last one does or one before it
+pub any-last : {X : Type 0} (test : X → Bool) (xs front : List X) (last : X) → xs ≡ front ++ last ∷ [] → list_any test xs ≡ true → (test last ≡ true) ⊎ (list_any test front ≡ true)
+any-last test xs front last is h =
+    ⊎_elim (λ before. inr before) (λ here. ⊎_elim (λ yes. inl yes) (λ none. cc) (or-cases (test last) false here))
+    (or-cases (list_any test front) (list_any test (last ∷ [])) (sym (list_any-append test front (last ∷ [])) ∙ (sym (ap (list_any test) is) ∙ h)))
 
 -- the key that is taken off the end is the last one
 pub last-popped : {K : Type 0} (keys front : List K) (k l : K) → slice_get keys (length keys - 1) ≡ Some l → keys ≡ front ++ k ∷ [] → k ≡ l

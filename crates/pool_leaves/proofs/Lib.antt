@@ -4,3 +4,4 @@ pub mod Leafing
 pub mod Parked
 pub mod Released
 pub mod Stood
+pub mod Turns

@@ -21,7 +21,7 @@ use Rattle.pool_rules.specs.Frame.{Frame}
 use Rattle.pool_state.specs.Holding.{covers, frame_at, pins_of}
 use Rattle.journal.specs.Layout.{InBounds, is_upper, page_numbers, uppers_of}
 use Rattle.pool_leaves.specs.Leaf.{count_on, is_leaf, ranks}
-use Rattle.pool_leaves.specs.Parking.{Grows, HasPlace, IsBare, IsListed, IsPlaced, IsPut, IsReady, LetsGo, Ranks}
+use Rattle.pool_leaves.specs.Parking.{Grows, HasPlace, IsBare, IsListed, IsPlaced, IsPut, IsReady, LetsGo, Ranks, stands}
 use Rattle.pool_state.specs.Naming.{IsNamedAlone, IsUnnamed, names}
 use Rattle.pool_state.specs.Moved.{still_names}
 use Rattle.pool_rules.specs.Rules.{allows, loads, rose, last_after, is_wrong}
@@ -38,7 +38,7 @@ use Rattle.pool_leaves.proofs.Followed.{Begins-ended, Begins-evicted, Begins-tak
 use Rattle.pool_state.proofs.Held.{at-hold, of-frame, of-moment}
 use Rattle.pool_leaves.proofs.Leafing.{bare-before, below-pages, leaf-parts, leaf-whole, name_at-cases, not-taken}
 use Rattle.pool_state.proofs.Numbered.{any-found, frame_at-others, frame_at-put}
-use Rattle.pool_leaves.proofs.Parked.{HasPlace-wider}
+use Rattle.pool_leaves.proofs.Parked.{Grows-itself, HasPlace-wider, stands-wider}
 use Rattle.pool_state.proofs.Named.{never-both, not-so, of-names, unpinned-unnamed}
 use Rattle.pool_leaves.proofs.Stood.{began, count-none, count-uppers}
 use Rattle.pool_rules.proofs.Tests.{and-both, or-cases, or-left, or-right, same-eqb}
@@ -57,7 +57,7 @@ record IsLeft (layout : Layout) (frames : List Frame) (x : Standing) (frame : �
 
 -- a leaf that no other frame names has its place
 going : (layout : Layout) (frames : List Frame) (x : Standing) (frame : ℕ) (moment : Option ℕ) (pages : List ℕ) (old new : Leaves) → Ranks layout frames x old → Grows old new → LetsGo layout frames x frame moment pages old new → (p : ℕ) → is_leaf layout (shown x frames) p ≡ true → list_any (nat_eq p) pages ≡ false → IsNamedAlone x.frames.holds frame p →
-    ((covers moment (get_or x.since.items p 0) ≡ true) × HasPlace (get_or x.named.items p 0) (get_or x.since.items p 0) new p) ⊎ (ranks new.order (get_or x.named.items p 0) p ≡ true)
+    ((covers moment (get_or x.since.items p 0) ≡ true) × HasPlace (get_or x.named.items p 0) (get_or x.since.items p 0) new p) ⊎ (stands new (get_or x.named.items p 0) p ≡ true)
 going layout frames x frame moment pages old new ranked grows lets p leaf apart alone = by_name (names x.frames.holds frame p) refl
   where
     since : ℕ
@@ -66,16 +66,16 @@ going layout frames x frame moment pages old new ranked grows lets p leaf apart 
     named : ℕ
     named = get_or x.named.items p 0
 
-    put : IsPut moment x new p → ((covers moment since ≡ true) × HasPlace named since new p) ⊎ (ranks new.order named p ≡ true)
+    put : IsPut moment x new p → ((covers moment since ≡ true) × HasPlace named since new p) ⊎ (stands new named p ≡ true)
     put (inl (covered, parked)) = inl (covered, inr parked)
     put (inr order) = inr order
 
-    parked : ranks old.parked since p ≡ true → (b : Bool) → covers moment since ≡ b → ((covers moment since ≡ true) × HasPlace named since new p) ⊎ (ranks new.order named p ≡ true)
+    parked : ranks old.parked since p ≡ true → (b : Bool) → covers moment since ≡ b → ((covers moment since ≡ true) × HasPlace named since new p) ⊎ (stands new named p ≡ true)
     parked was true covered = inl (covered, inr (grows.parked since p was))
     parked was false covered = inr (lets.swept p leaf was covered apart)
 
-    had : HasPlace named since old p → ((covers moment since ≡ true) × HasPlace named since new p) ⊎ (ranks new.order named p ≡ true)
-    had (inl order) = inr (grows.order named p order)
+    had : HasPlace named since old p → ((covers moment since ≡ true) × HasPlace named since new p) ⊎ (stands new named p ≡ true)
+    had (inl order) = inr (stands-wider old new named p grows order)
     had (inr was) = parked was (covers moment since) refl
 
     none : names x.frames.holds frame p ≡ false → IsUnnamed (names x.frames.holds) p
@@ -84,11 +84,11 @@ going layout frames x frame moment pages old new ranked grows lets p leaf apart 
       | false ↦ λ e. alone n (λ same. let yes : (n == frame) ≡ true = (Decides-eqb n frame).1 same in cc)
     ] refl
 
-    by_name : (b : Bool) → names x.frames.holds frame p ≡ b → ((covers moment since ≡ true) × HasPlace named since new p) ⊎ (ranks new.order named p ≡ true)
+    by_name : (b : Bool) → names x.frames.holds frame p ≡ b → ((covers moment since ≡ true) × HasPlace named since new p) ⊎ (stands new named p ≡ true)
     by_name true named_there = put (lets.released p named_there leaf alone apart)
     by_name false unnamed = had (ranked.places.placed p leaf (none unnamed))
 
-listed-going : (layout : Layout) (frames : List Frame) (x : Standing) (frame : ℕ) (moment : Option ℕ) (pages : List ℕ) (s' : State) (still : ℕ → ℕ → Bool) (old new : Leaves) → IsLeft layout frames x frame moment pages s' still → Ranks layout frames x old → Grows old new → LetsGo layout frames x frame moment pages old new → IsListed layout s' new.order
+listed-going : (layout : Layout) (frames : List Frame) (x : Standing) (frame : ℕ) (moment : Option ℕ) (pages : List ℕ) (s' : State) (still : ℕ → ℕ → Bool) (old new : Leaves) → IsLeft layout frames x frame moment pages s' still → Ranks layout frames x old → Grows old new → LetsGo layout frames x frame moment pages old new → IsListed layout s' new
 listed-going layout frames x frame moment pages s' still old new left ranked grows lets = λ p leaf loose.
     let apart = not-so (list_any (nat_eq p) pages) (λ has. never-both (is_pinned s' p) (left.own p has) loose) in
     let before = left.leaf p leaf in
@@ -209,10 +209,10 @@ record IsBared (layout : Layout) (frames : List Frame) (x : Standing) (s' : Stat
   loose : (p : ℕ) → is_pinned s' p ≡ false → is_pinned (shown x frames) p ≡ false
   named : (p : ℕ) → named_of s' p ≡ get_or x.named.items p 0
 
-listed-bared : (layout : Layout) (entries : ℕ) (frames : List Frame) (x : Standing) (s' : State) (old new : Leaves) → Agrees entries frames x → IsBared layout frames x s' new → Ranks layout frames x old → Grows old new → IsListed layout s' new.order
+listed-bared : (layout : Layout) (entries : ℕ) (frames : List Frame) (x : Standing) (s' : State) (old new : Leaves) → Agrees entries frames x → IsBared layout frames x s' new → Ranks layout frames x old → Grows old new → IsListed layout s' new
 listed-bared layout entries frames x s' old new agrees bared ranked grows = λ p leaf loose.
     rw (bared.named p) (⊎_elim
-    (λ was. grows.order (get_or x.named.items p 0) p (ranked.places.listed p was (bared.loose p loose)))
+    (λ was. stands-wider old new (get_or x.named.items p 0) p grows (ranked.places.listed p was (bared.loose p loose)))
     (λ (resident, bare). (bare (unpinned-unnamed entries frames x p agrees (bared.loose p loose))).1 resident (bared.loose p loose))
     (bared.leaf p leaf))
 
@@ -300,7 +300,7 @@ bared-ended layout frames x by page new bounds sound loaded bares =
 pub IsReady-taken : (layout : Layout) (entries : ℕ) (frames : List Frame) (x : Standing) (by : ℕ) (frame : Option ℕ) (page : ℕ) (old : Leaves) → Agrees entries frames x → IsSound layout (shown x frames) → IsTaken layout (shown x frames) page None → Ranks layout frames x old → IsReady layout frames x by (Take frame page None) old
 IsReady-taken layout entries frames x by frame page old agrees sound told ranked =
     let bared = bared-taken layout frames x by frame page old sound told in
-    let grows : Grows old old = record { lowers = refl; order = λ n p h. h; parked = λ n p h. h } in
+    let grows : Grows old old = Grows-itself old in
     record { listed = listed-bared layout entries frames x _ old old agrees bared ranked grows; placed = placed-bared layout frames x _ old old bared ranked grows }
 
 pub IsReady-evicted : (layout : Layout) (entries : ℕ) (frames : List Frame) (x : Standing) (by : ℕ) (frame : Option ℕ) (page v : ℕ) (old new : Leaves) → InBounds layout → Agrees entries frames x → IsSound layout (shown x frames) → IsTaken layout (shown x frames) page (Some v) → Ranks layout frames x old → Grows old new → BaresUppers layout frames x new v → IsReady layout frames x by (Take frame page (Some v)) new
@@ -340,13 +340,13 @@ pins-more wants page p (f ∷ frames) h =
     one true h = ⊎_elim (λ same. same ∙ h) (λ here. here.1) (get_or-set_cases f.pins page p true false)
     one false h = h
 
-pub IsReady-installed : (layout : Layout) (entries : ℕ) (frames : List Frame) (x : Standing) (by page : ℕ) (digest : _) (old new : Leaves) → Agrees entries frames x → IsSound layout (shown x frames) → loads (shown x frames) by page ≡ true → Ranks layout frames x old → Grows old new → ranks new.order (x.entries + 1) page ≡ true → IsReady layout frames x by (Install page digest) new
+pub IsReady-installed : (layout : Layout) (entries : ℕ) (frames : List Frame) (x : Standing) (by page : ℕ) (digest : _) (old new : Leaves) → Agrees entries frames x → IsSound layout (shown x frames) → loads (shown x frames) by page ≡ true → Ranks layout frames x old → Grows old new → stands new (x.entries + 1) page ≡ true → IsReady layout frames x by (Install page digest) new
 IsReady-installed layout entries frames x by page digest old new agrees sound loaded ranked grows there = record {
-  listed = λ p leaf loose. elim (nat_eq page p) as (λ b. nat_eq page p ≡ b → ranks new.order (named_of s' p) p ≡ true) [
+  listed = λ p leaf loose. elim (nat_eq page p) as (λ b. nat_eq page p ≡ b → stands new (named_of s' p) p ≡ true) [
     | true ↦ λ here. own p (same-eqb page p here)
     | false ↦ λ no.
         let apart = other-page page p no in
-        rw (get_or-set_other s.named page p (x.entries + 1) 0 apart) (grows.order (get_or x.named.items p 0) p (ranked.places.listed p (before p apart leaf) (not-so (is_pinned s p) (λ pinned. never-both (is_pinned s' p) (pins-more s.wants page p frames pinned) loose))))
+        rw (get_or-set_other s.named page p (x.entries + 1) 0 apart) (stands-wider old new (get_or x.named.items p 0) p grows (ranked.places.listed p (before p apart leaf) (not-so (is_pinned s p) (λ pinned. never-both (is_pinned s' p) (pins-more s.wants page p frames pinned) loose))))
   ] refl;
   placed = λ p leaf none. elim (nat_eq page p) as (λ b. nat_eq page p ≡ b → HasPlace (named_of s' p) (get_or (set x.since.items page (x.entries + 1)) p 0) new p) [
     | true ↦ λ here. inl (own p (same-eqb page p here))
@@ -362,7 +362,7 @@ IsReady-installed layout entries frames x by page digest old new agrees sound lo
     s' : State
     s' = changed (shown x frames) by (Install page digest)
 
-    own : (p : ℕ) → page ≡ p → ranks new.order (named_of s' p) p ≡ true
+    own : (p : ℕ) → page ≡ p → stands new (named_of s' p) p ≡ true
     own p same =
         let now : get_or (set s.named page (s.entries + 1)) page 0 ≡ s.entries + 1 = get_or-set_same s.named page (s.entries + 1) 0 (omega (arith, ranked.places.named_a_page, installed-below layout s by page sound loaded, sound.flag_a_page)) in
         rw (← same) (rw now there)

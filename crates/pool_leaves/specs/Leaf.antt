@@ -49,6 +49,18 @@ abbrev pub is_leaf : Layout → State → ℕ → Bool
 is_leaf layout s page =
     is_resident s page && (not (nat_lt page layout.roots) && not (is_stood_on layout s page))
 
+-- whether the place is of a leaf that was last named then
+abbrev pub is_live : Layout → State → ℕ × ℕ → Bool
+is_live layout s place = (named_of s place.1 == place.0) && is_leaf layout s place.1
+
+-- the same two by how many pages stand on each, where that count is right
+abbrev pub is_counted_leaf : List ℕ → Layout → State → ℕ → Bool
+is_counted_leaf lowers layout s page =
+    is_resident s page && (not (nat_lt page layout.roots) && not (nat_lt 0 (slice_index_or lowers page 0)))
+
+abbrev pub is_counted_live : List ℕ → Layout → State → ℕ × ℕ → Bool
+is_counted_live lowers layout s place = (named_of s place.1 == place.0) && is_counted_leaf lowers layout s place.1
+
 -- whether the place is of a page that may be evicted for this one, and that was last named then
 abbrev pub fits : Layout → State → ℕ → Reverse ℕ × ℕ → Bool
 fits layout s page place = (named_of s place.1 == place.0.0) && is_evictable layout s page place.1

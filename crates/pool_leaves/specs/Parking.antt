@@ -1,8 +1,7 @@
 -- Where the leaves stand: those that no live frame pins in order, and of those that frames pin, but none
 -- by name, the rest parked.
-use Rattle.std.specs.Prelude.{◌≡◌, ◌≤◌, ◌⊎◌, ℕ, Bool, true, false, List, length, nat_eq, Option, slice_index_or}
+use Rattle.std.specs.Prelude.{◌≡◌, ◌≤◌, ◌⊎◌, ◌||◌, ℕ, Bool, true, false, List, length, nat_eq, Option, slice_index_or, take}
 use Rattle.std.specs.List.{list_any}
-use Rattle.std.specs.declared.cmp.Reverse.{Reverse}
 use Rattle.journal.specs.declared.entries.What.{What}
 use Rattle.journal.specs.declared.layouts.Layout.{Layout}
 use Rattle.pool_leaves.specs.declared.leaves.Leaves.{Leaves}
@@ -10,21 +9,25 @@ use Rattle.pool_state.specs.declared.standings.Standing.{Standing}
 use Rattle.pool_rules.specs.Frame.{Frame}
 use Rattle.pool_state.specs.Holding.{covers}
 use Rattle.pool_leaves.specs.Leaf.{CountsLowers, IsWider, is_leaf, ranks}
+use Rattle.pool_leaves.specs.Recent.{is_recent}
 use Rattle.pool_state.specs.Naming.{IsNamedAlone, IsUnnamed, names}
 use Rattle.pool_state.specs.Moved.{since_after, still_names}
 use Rattle.pool_state.specs.Shown.{shown}
 use Rattle.pool_rules.specs.State.{State, changed, is_held, is_resident}
 use Rattle.pool_rules.specs.Victim.{is_pinned, named_of}
-use Rattle.std.specs.BTreeSet as set
+
+-- whether the page stands in order at this count, among the recent places or the others
+abbrev pub stands : Leaves → ℕ → ℕ → Bool
+stands leaves count page = is_recent leaves.recent count page || ranks leaves.order count page
 
 -- each leaf that no frame pins stands in order, as it was last named
-abbrev pub IsListed : Layout → State → set.BTreeSet (Reverse ℕ × ℕ) → Type 0
-IsListed layout s order = (page : ℕ) → is_leaf layout s page ≡ true → is_pinned s page ≡ false →
-    ranks order (named_of s page) page ≡ true
+abbrev pub IsListed : Layout → State → Leaves → Type 0
+IsListed layout s leaves = (page : ℕ) → is_leaf layout s page ≡ true → is_pinned s page ≡ false →
+    stands leaves (named_of s page) page ≡ true
 
 -- the page, last named and installed at these counts, stands in order or is parked
 abbrev pub HasPlace : ℕ → ℕ → Leaves → ℕ → Type 0
-HasPlace named since leaves page = (ranks leaves.order named page ≡ true) ⊎ (ranks leaves.parked since page ≡ true)
+HasPlace named since leaves page = (stands leaves named page ≡ true) ⊎ (ranks leaves.parked since page ≡ true)
 
 -- each leaf that no frame pins by name stands in order or is parked
 abbrev pub IsPlaced : Layout → State → (ℕ → ℕ → Bool) → List ℕ → Leaves → Type 0
@@ -33,7 +36,7 @@ IsPlaced layout s names since leaves = (page : ℕ) → is_leaf layout s page �
 
 -- the leaves stand where the standing asks
 pub record Places (layout : Layout) (frames : List Frame) (standing : Standing) (leaves : Leaves) : Type 0 where
-  pub listed : IsListed layout (shown standing frames) leaves.order
+  pub listed : IsListed layout (shown standing frames) leaves
   pub placed : IsPlaced layout (shown standing frames) (names standing.frames.holds) standing.since.items leaves
   -- a page is named when it is installed
   pub came : (page : ℕ) → slice_index_or standing.since.items page 0 ≤ slice_index_or standing.named.items page 0
@@ -46,15 +49,16 @@ pub record Ranks (layout : Layout) (frames : List Frame) (standing : Standing) (
   pub lowers : CountsLowers layout (is_held (shown standing frames)) leaves.lowers.items
   pub places : Places layout frames standing leaves
 
--- more may stand in order, and more be parked
+-- more may stand in order, behind the recent places or among the others, and more be parked
 pub record Grows (old new : Leaves) : Type 0 where
   pub lowers : new.lowers ≡ old.lowers
+  pub recent : take (length old.recent) new.recent ≡ old.recent
   pub order : IsWider old.order new.order
   pub parked : IsWider old.parked new.parked
 
 -- what becomes a leaf by the entry has its place
 pub record IsReady (layout : Layout) (frames : List Frame) (standing : Standing) (by : ℕ) (what : What) (leaves : Leaves) : Type 0 where
-  pub listed : IsListed layout (changed (shown standing frames) by what) leaves.order
+  pub listed : IsListed layout (changed (shown standing frames) by what) leaves
   pub placed : IsPlaced layout (changed (shown standing frames) by what) (still_names what standing.frames.holds)
       (since_after what standing.entries standing.since.items) leaves
 
@@ -62,14 +66,14 @@ pub record IsReady (layout : Layout) (frames : List Frame) (standing : Standing)
 abbrev pub IsPut : Option ℕ → Standing → Leaves → ℕ → Type 0
 IsPut moment standing leaves page =
     ((covers moment (slice_index_or standing.since.items page 0) ≡ true) × (ranks leaves.parked (slice_index_or standing.since.items page 0) page ≡ true))
-    ⊎ (ranks leaves.order (slice_index_or standing.named.items page 0) page ≡ true)
+    ⊎ (stands leaves (slice_index_or standing.named.items page 0) page ≡ true)
 
 -- the page has a place where no frame pins it by name, and stands in order where none pins it
 abbrev pub IsBare : List Frame → Standing → Leaves → ℕ → Type 0
 IsBare frames standing leaves page = IsUnnamed (names standing.frames.holds) page →
     HasPlace (slice_index_or standing.named.items page 0) (slice_index_or standing.since.items page 0) leaves page
     × (is_resident (shown standing frames) page ≡ true → is_pinned (shown standing frames) page ≡ false →
-    ranks leaves.order (slice_index_or standing.named.items page 0) page ≡ true)
+    stands leaves (slice_index_or standing.named.items page 0) page ≡ true)
 
 -- the frame lets go of what it pins by name, but for these pages, and this is the greatest moment left
 pub record LetsGo (layout : Layout) (frames : List Frame) (standing : Standing) (frame : ℕ) (moment : Option ℕ) (pages : List ℕ) (old new : Leaves) : Type 0 where
@@ -79,4 +83,4 @@ pub record LetsGo (layout : Layout) (frames : List Frame) (standing : Standing) 
   -- parked leaves that the moment doesn't cover stand in order
   pub swept : (page : ℕ) → is_leaf layout (shown standing frames) page ≡ true → ranks old.parked (slice_index_or standing.since.items page 0) page ≡ true →
       covers moment (slice_index_or standing.since.items page 0) ≡ false → list_any (nat_eq page) pages ≡ false →
-      ranks new.order (slice_index_or standing.named.items page 0) page ≡ true
+      stands new (slice_index_or standing.named.items page 0) page ≡ true

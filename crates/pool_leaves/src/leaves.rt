@@ -1,15 +1,16 @@
-ghost use Rattle.std.specs.Prelude.{◌≡◌, ◌+◌, ◌-◌, ◌<◌, ◌^◌, ℕ, Bool, IfOk, OnOk, count_by, length, min, nat_eq, slice_index_or, true, List};
+ghost use Rattle.std.specs.Prelude.{◌≡◌, [], ◌+◌, ◌-◌, ◌<◌, ◌^◌, ℕ, Bool, IfOk, OnOk, count_by, length, min, nat_eq, slice_index_or, true, List};
 ghost use Rattle.journal.specs.declared.entries.Entry.{Entry};
 ghost use Rattle.journal.specs.declared.layouts.Layout.{Layout};
 ghost use Rattle.pool_rules.specs.Frame.{Frame};
 ghost use Rattle.journal.specs.Layout.{InBounds};
-ghost use Rattle.pool_leaves.specs.Leaf.{Begins, CountsLowers, IsWider, Removes, is_leaf, ranks};
+ghost use Rattle.pool_leaves.specs.Leaf.{Begins, CountsLowers, IsWider, Removes, is_counted_leaf, is_counted_live, is_leaf, ranks};
 ghost use Rattle.pool_rules.specs.Rules.{allows};
 ghost use Rattle.pool_state.specs.Shown.{shown};
 ghost use Rattle.pool_rules.specs.Sound.{IsSound};
 ghost use Rattle.pool_rules.specs.State.{State, changed, is_held, opening};
 ghost use Rattle.pool_rules.specs.Victim.{is_stood_on};
 
+use crate::recents::Recents;
 use geom_core::Memory;
 use journal::What;
 use pool_state::{Plan, Standing, count_at, lower, raise, zeros};
@@ -20,15 +21,19 @@ use std::collections::BTreeSet;
 /// What is kept of the pages that stand on others, and of the leaves, the resident pages but for root
 /// pages that no resident or loading page stands on.
 ///
-/// A place is a count of entries with a page; that of the greatest count comes first, of equals that of
-/// the least page. A set searches each of its nodes from the front, where a page stands that was named
-/// just now, as most are that are put in; a victim is looked for from the last place on. Others than
-/// those that are told may stand among the places.
+/// A place is a count of entries with a page. Most places come behind all others when they are put in,
+/// since a frame mostly lets go of what was named last: these stand in a queue, which costs no search.
+/// All others stand in sets. In a set the place of the greatest count comes first, of equals that of the
+/// least page, and a victim is looked for from the last place on. Others than those that are told may
+/// stand among the places.
 #[derive(Debug, Drop)]
 pub struct Leaves {
     /// By page: how many resident or loading pages stand on it.
     pub lowers: Vec<u64>,
-    /// The places of the leaves that no live frame pins, as they were last named.
+    /// Of the places of the leaves that no live frame pins, as they were last named: those that came
+    /// behind all of the queue when they were put in, while no live frame had a moment left.
+    pub recent: Recents,
+    /// The other places of such leaves.
     pub order: BTreeSet<(Reverse<u64>, u32)>,
     /// The places, as they were installed, of leaves that a frame's moment covers and no frame pins by
     /// name. They go into `order` once no moment covers them.
@@ -57,7 +62,7 @@ pub fn remove(places: &mut BTreeSet<(Reverse<u64>, u32)>, count: u64, page: u32)
 }
 
 /// Whether the page stands among the places, at this count.
-pub fn stands(places: &BTreeSet<(Reverse<u64>, u32)>, count: u64, page: u32) -> bool
+pub fn is_in(places: &BTreeSet<(Reverse<u64>, u32)>, count: u64, page: u32) -> bool
     ensures { result ≡ ranks places.now count page }
 {
     places.contains(&(Reverse(count), page))
@@ -85,6 +90,24 @@ fn lower_all(counts: &mut [u64], pages: &[u32])
     }
 }
 
+/// Whether the page is a leaf, by how many pages stand on each.
+fn is_leaf(lowers: &[u64], layout: &Plan, standing: &Standing, page: u32) -> bool
+    ensures { result ≡ is_counted_leaf lowers.now layout.now (shown standing.now []) page }
+{
+    if !standing.is_resident(page) {
+        return false;
+    }
+    page >= layout.roots() && count_at(lowers, page) == 0
+}
+
+/// Whether the place is of a leaf that was last named then, by how many pages stand on each.
+pub(crate) fn is_live(lowers: &[u64], layout: &Plan, standing: &Standing, place: (u64, u32)) -> bool
+    ensures { result ≡ is_counted_live lowers.now layout.now (shown standing.now []) place }
+{
+    let (count, page) = place;
+    count_at(&standing.named, page) == count && is_leaf(lowers, layout, standing, page)
+}
+
 impl Leaves {
     /// Before any entry: the root pages are resident.
     pub fn opening(alloc: Global, layout: &Plan) -> Result<Leaves, Memory>
@@ -94,6 +117,7 @@ impl Leaves {
     {
         let mut leaves = Leaves {
             lowers: zeros(alloc, layout.pages())?,
+            recent: Recents::new(alloc),
             order: BTreeSet::new(alloc),
             parked: BTreeSet::new(alloc),
         };
@@ -119,10 +143,7 @@ impl Leaves {
             length standing.now.places.resident.items ≡ layout.now.pages →
             result ≡ is_leaf layout.now (shown standing.now frames) page }
     {
-        if !standing.is_resident(page) {
-            return false;
-        }
-        page >= layout.roots() && !self.is_stood_on(page)
+        is_leaf(&self.lowers, layout, standing, page)
     }
 
     /// Counts a page that is resident or being loaded from now on at each of its uppers.
@@ -130,6 +151,7 @@ impl Leaves {
         ensures lowers { (held held' : ℕ → Bool) → InBounds layout.now →
             Begins layout.now held held' page → CountsLowers layout.now held self.old.lowers.items →
             CountsLowers layout.now held' self.new.lowers.items }
+        ensures recent { self.new.recent ≡ self.old.recent }
         ensures order { self.new.order ≡ self.old.order }
         ensures parked { self.new.parked ≡ self.old.parked }
     {
@@ -141,6 +163,7 @@ impl Leaves {
         ensures lowers { (held held' : ℕ → Bool) → InBounds layout.now →
             Begins layout.now held' held page → CountsLowers layout.now held self.old.lowers.items →
             CountsLowers layout.now held' self.new.lowers.items }
+        ensures recent { self.new.recent ≡ self.old.recent }
         ensures order { self.new.order ≡ self.old.order }
         ensures parked { self.new.parked ≡ self.old.parked }
     {
@@ -153,6 +176,7 @@ impl Leaves {
             IsSound layout.now s → allows layout.now s journal by what.now ≡ true →
             CountsLowers layout.now (is_held s) self.old.lowers.items →
             CountsLowers layout.now (is_held (changed s by what.now)) self.new.lowers.items }
+        ensures recent { self.new.recent ≡ self.old.recent }
         ensures order { self.new.order ≡ self.old.order }
         ensures parked { self.new.parked ≡ self.old.parked }
     {

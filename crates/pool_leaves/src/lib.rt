@@ -5,9 +5,13 @@
 //! searches tests what is found.
 #![tactic(auto)]
 
+mod bares;
+mod drops;
 mod leaves;
 mod prunes;
+mod recents;
 mod releases;
 
 pub use leaves::Leaves;
+pub use recents::Recents;
 pub use releases::after;

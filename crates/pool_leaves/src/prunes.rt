@@ -1,4 +1,4 @@
-ghost use Rattle.std.specs.Prelude.{◌≡◌, ℕ, List, true};
+ghost use Rattle.std.specs.Prelude.{◌≡◌, ℕ, List, take, true};
 ghost use Rattle.pool_state.specs.Agreement.{Agrees};
 ghost use Rattle.pool_rules.specs.Frame.{Frame};
 ghost use Rattle.pool_leaves.specs.Leaf.{is_leaf, ranks};
@@ -9,13 +9,12 @@ ghost use Rattle.pool_rules.specs.State.{is_resident};
 ghost use Rattle.pool_leaves.specs.declared.leaves.Leaves.{Leaves};
 ghost use Rattle.journal.specs.declared.layouts.Layout.{Layout};
 
-use crate::leaves::{Leaves, remove, stands};
+use crate::leaves::{Leaves, is_in, remove};
 use crate::releases::after;
 use journal::What;
 use pool_state::{Plan, Standing, count_at};
 use std::cmp::Reverse;
 use std::collections::BTreeSet;
-use std::ops::Bound;
 
 /// Lets a page that was parked at this count stand in order no more, where that is its own place.
 fn unorder(order: &mut BTreeSet<(Reverse<u64>, u32)>, standing: &Standing, since: u64, page: u32)
@@ -52,14 +51,6 @@ fn unsweep(
     }
 }
 
-/// Of the places from this count on the last, that of the least count: the count and the page.
-fn last_from(order: &BTreeSet<(Reverse<u64>, u32)>, start: u64) -> Option<(u64, u32)> {
-    match order.range(..=(Reverse(start), u32::MAX)).next_back() {
-        Some((Reverse(count), page)) => Some((*count, *page)),
-        None => None,
-    }
-}
-
 impl Leaves {
     /// Lets a page that is no leaf, or that some frame pins by name, stand nowhere.
     fn clear(&mut self, standing: &Standing, page: u32)
@@ -85,7 +76,7 @@ impl Leaves {
         let since = count_at(&standing.since, page);
         if !standing.frames.is_covered(since) {
             remove(&mut self.parked, since, page);
-        } else if stands(&self.parked, since, page) {
+        } else if is_in(&self.parked, since, page) {
             remove(&mut self.order, count_at(&standing.named, page), page);
         }
     }
@@ -128,8 +119,12 @@ impl Leaves {
             Agrees entries frames standing.now → Ranks layout frames standing.now self.old →
             Ranks layout frames standing.now self.new }
     {
-        if standing.frames.is_named(page) {
-            remove(&mut self.order, count_at(&standing.named, page), page);
+        if !standing.frames.is_named(page) {
+            return;
+        }
+        let count = count_at(&standing.named, page);
+        if !self.recent.pop_last(count, page) {
+            remove(&mut self.order, count, page);
         }
     }
 
@@ -177,97 +172,6 @@ impl Leaves {
         }
     }
 
-    /// Lets the page stand in order no more as one that was named at this count, unless it was; answers
-    /// whether it wasn't.
-    fn forget(&mut self, standing: &Standing, count: u64, page: u32) -> bool
-        ensures { (layout : Layout) (entries : ℕ) (frames : List Frame) →
-            Agrees entries frames standing.now → Ranks layout frames standing.now self.old →
-            Ranks layout frames standing.now self.new }
-    {
-        if count_at(&standing.named, page) == count {
-            return false;
-        }
-        remove(&mut self.order, count, page);
-        true
-    }
-
-    /// Lets the page of the last place stand there no more, unless it was named then; answers whether it
-    /// wasn't.
-    fn forget_last(&mut self, standing: &Standing) -> bool
-        ensures { (layout : Layout) (entries : ℕ) (frames : List Frame) →
-            Agrees entries frames standing.now → Ranks layout frames standing.now self.old →
-            Ranks layout frames standing.now self.new }
-    {
-        let Some(place) = self.order.last() else {
-            return false;
-        };
-        let (Reverse(count), page) = *place;
-        if count_at(&standing.named, page) == count {
-            return false;
-        }
-        self.order.pop_last();
-        true
-    }
-
-    /// The same for the last of the places from this count on.
-    fn forget_last_from(&mut self, standing: &Standing, start: u64) -> bool
-        ensures { (layout : Layout) (entries : ℕ) (frames : List Frame) →
-            Agrees entries frames standing.now → Ranks layout frames standing.now self.old →
-            Ranks layout frames standing.now self.new }
-    {
-        // Mostly no live frame has a moment, and then no place has to be looked for.
-        if start == 0 {
-            return self.forget_last(standing);
-        }
-        match last_from(&self.order, start) {
-            Some((count, page)) => self.forget(standing, count, page),
-            None => false,
-        }
-    }
-
-    /// Lets pages that were named again since stand in the last places no more, of those from this count
-    /// on, back to the last whose page wasn't.
-    fn drop_last(&mut self, standing: &Standing, start: u64)
-        ensures { (layout : Layout) (entries : ℕ) (frames : List Frame) →
-            Agrees entries frames standing.now → Ranks layout frames standing.now self.old →
-            Ranks layout frames standing.now self.new }
-    {
-        for _ in 0..self.order.len() {
-            if !self.forget_last_from(standing, start) {
-                return;
-            }
-        }
-    }
-
-    /// Lets pages that were named again since stand in no place from this count on.
-    fn drop_from(&mut self, standing: &Standing, start: u64)
-        ensures { (layout : Layout) (entries : ℕ) (frames : List Frame) →
-            Agrees entries frames standing.now → Ranks layout frames standing.now self.old →
-            Ranks layout frames standing.now self.new }
-    {
-        let mut end = Bound::Included((Reverse(start), u32::MAX));
-        for _ in 0..self.order.len() {
-            let Some(place) = self.order.range((Bound::Unbounded, end)).next_back() else {
-                return;
-            };
-            let (Reverse(count), page) = *place;
-            self.forget(standing, count, page);
-            end = Bound::Excluded((Reverse(count), page));
-        }
-    }
-
-    /// Lets pages that were named again since stand in no place, where there are more than twice as many
-    /// places as pages.
-    fn drop_many(&mut self, layout: &Plan, standing: &Standing)
-        ensures { (entries : ℕ) (frames : List Frame) → Agrees entries frames standing.now →
-            Ranks layout.now frames standing.now self.old →
-            Ranks layout.now frames standing.now self.new }
-    {
-        if self.order.len() as u64 > 2 * u64::from(layout.pages()) {
-            self.drop_from(standing, 0);
-        }
-    }
-
     /// Lets these pages, which were named again, and those that no moment covers be parked no more, and
     /// pages that were named again since stand in none of the last places.
     fn prune_named(&mut self, layout: &Plan, standing: &Standing, pages: &[u32])
@@ -277,7 +181,8 @@ impl Leaves {
     {
         self.unpark_named(standing, pages);
         self.unpark(standing);
-        self.drop_last(standing, after(standing.frames.last_moment()));
+        self.drop_ends(layout, standing);
+        self.drop_many_recent(layout, standing);
         self.drop_many(layout, standing);
     }
 
@@ -291,7 +196,7 @@ impl Leaves {
         self.tidy_uppers(layout, standing, page);
         if let Some(victim) = victim {
             self.tidy(layout, standing, victim);
-            self.drop_last(standing, after(standing.frames.last_moment()));
+            self.drop_ends(layout, standing);
         }
     }
 
@@ -309,9 +214,7 @@ impl Leaves {
             What::Unpin { .. } => self.unpark(standing),
             What::Install { page, .. } => self.unorder_named(standing, *page),
             What::Take { page, victim, .. } => self.prune_taken(layout, standing, *page, *victim),
-            What::Full { .. } => {
-                self.drop_from(standing, after(standing.frames.last_moment()));
-            }
+            What::Full { .. } => self.drop_searched(layout, standing),
             _ => {}
         }
     }
@@ -330,8 +233,8 @@ impl Leaves {
         }
     }
 
-    /// Lets pages stand where they stood before an entry that had no memory.
-    pub fn withdraw(&mut self, layout: &Plan, standing: &Standing, what: &What)
+    /// Lets pages stand where they stood before an entry that had no memory, but for the recent places.
+    fn withdraw_others(&mut self, layout: &Plan, standing: &Standing, what: &What)
         ensures { (entries : ℕ) (frames : List Frame) → Agrees entries frames standing.now →
             Ranks layout.now frames standing.now self.old →
             Ranks layout.now frames standing.now self.new }
@@ -353,5 +256,17 @@ impl Leaves {
             | What::Starve { page } => self.tidy_uppers(layout, standing, *page),
             _ => {}
         }
+    }
+
+    /// Lets pages stand where they stood before an entry that had no memory, when there were this many
+    /// recent places.
+    pub fn withdraw(&mut self, layout: &Plan, standing: &Standing, what: &What, recent: usize)
+        ensures { (entries : ℕ) (frames : List Frame) → Agrees entries frames standing.now →
+            Ranks layout.now frames standing.now
+            (record self.old { recent = take recent self.old.recent }) →
+            Ranks layout.now frames standing.now self.new }
+    {
+        self.recent.truncate(recent);
+        self.withdraw_others(layout, standing, what);
     }
 }

@@ -1,20 +1,18 @@
-ghost use Rattle.std.specs.Prelude.{◌≡◌, ◌<◌, ◌≤◌, ◌-◌, ◌^◌, ℕ, List, OnOk, false, nat_eq, nat_lt, slice_index_or, true};
+ghost use Rattle.std.specs.Prelude.{◌≡◌, ◌<◌, ◌≤◌, ◌-◌, ◌^◌, ◌+◌, ℕ, IfOk, List, OnOk, false, nat_eq, nat_lt, slice_index_or, true};
 ghost use Rattle.std.specs.BTreeSet as set;
 ghost use Rattle.std.specs.List.{list_any};
 ghost use Rattle.std.specs.Ordering.{nat_cmp};
 ghost use Rattle.pool_state.specs.Agreement.{Agrees};
 ghost use Rattle.journal.specs.declared.entries.Entry.{Entry};
-ghost use Rattle.journal.specs.declared.layouts.Layout.{Layout};
 ghost use Rattle.pool_rules.specs.Frame.{Frame};
-ghost use Rattle.pool_state.specs.Holding.{covers};
-ghost use Rattle.journal.specs.Layout.{InBounds, is_upper};
-ghost use Rattle.pool_leaves.specs.Leaf.{IsWider, count_on, is_leaf, ranks};
-ghost use Rattle.pool_leaves.specs.Parking.{Grows, IsBare, IsPut, IsReady, LetsGo, Ranks};
-ghost use Rattle.pool_state.specs.Naming.{IsNamedAlone, IsUnnamed, names};
+ghost use Rattle.pool_state.specs.Holding.{IsIndexed, covers};
+ghost use Rattle.journal.specs.Layout.{InBounds};
+ghost use Rattle.pool_leaves.specs.Leaf.{IsWider, is_leaf, ranks};
+ghost use Rattle.pool_leaves.specs.Parking.{Grows, IsPut, IsReady, LetsGo, Ranks, stands};
+ghost use Rattle.pool_state.specs.Naming.{IsNamedAlone, names};
 ghost use Rattle.pool_rules.specs.Rules.{allows};
 ghost use Rattle.pool_state.specs.Shown.{shown};
 ghost use Rattle.pool_rules.specs.Sound.{IsSound};
-ghost use Rattle.pool_rules.specs.State.{is_held};
 
 use crate::leaves::{Leaves, insert};
 use geom_core::Memory;
@@ -88,9 +86,44 @@ fn is_covered(standing: &Standing, moment: Option<u64>, page: u32) -> bool
     }
 }
 
+/// Whether the page is no root page, only one frame pins it by name, and it is perhaps none of these.
+fn is_released(layout: &Plan, standing: &Standing, pages: &[u32], page: u32) -> bool
+    ensures { IsIndexed standing.now.frames → nat_lt page layout.now.roots ≡ false → (frame : ℕ) →
+        IsNamedAlone standing.now.frames.holds frame page →
+        list_any (nat_eq page) pages.now ≡ false → result ≡ true }
+{
+    if page < layout.roots() {
+        return false;
+    }
+    !standing.frames.is_shared(page) && !is_among(pages, page)
+}
+
 impl Leaves {
+    /// Puts the page behind the recent ones, where no live frame has a moment left, and its place comes
+    /// behind theirs; answers whether it does.
+    pub(crate) fn put_behind(
+        &mut self,
+        standing: &Standing,
+        moment: Option<u64>,
+        page: u32,
+    ) -> Result<bool, Memory>
+        ensures grows { Grows self.old self.new }
+        ensures ok { IfOk result (λ put. put ≡ true → IsPut moment standing.now self.new page) }
+    {
+        if moment.is_some() {
+            return Ok(false);
+        }
+        let count = count_at(&standing.named, page);
+        self.recent.put_behind(count, page)
+    }
+
     /// Puts the page into its place: parked where the moment covers it, and else in order.
-    fn put(&mut self, standing: &Standing, moment: Option<u64>, page: u32) -> Result<(), Memory>
+    pub(crate) fn put(
+        &mut self,
+        standing: &Standing,
+        moment: Option<u64>,
+        page: u32,
+    ) -> Result<(), Memory>
         ensures grows { Grows self.old self.new }
         ensures ok { OnOk result (IsPut moment standing.now self.new page) }
     {
@@ -98,23 +131,6 @@ impl Leaves {
             return insert(&mut self.parked, count_at(&standing.since, page), page);
         }
         insert(&mut self.order, count_at(&standing.named, page), page)
-    }
-
-    /// Whether the page is a leaf that only one frame pins by name, and perhaps none of these pages.
-    fn is_released(&self, layout: &Plan, standing: &Standing, pages: &[u32], page: u32) -> bool
-        ensures { (entries : ℕ) (frames : List Frame) → Agrees entries frames standing.now →
-            Ranks layout.now frames standing.now self.now →
-            is_leaf layout.now (shown standing.now frames) page ≡ true → (frame : ℕ) →
-            IsNamedAlone standing.now.frames.holds frame page →
-            list_any (nat_eq page) pages.now ≡ false → result ≡ true }
-    {
-        if !self.is_leaf(layout, standing, page) {
-            return false;
-        }
-        if standing.frames.is_shared(page) {
-            return false;
-        }
-        !is_among(pages, page)
     }
 
     /// Puts a leaf that only one frame pins by name, and none of these pages, into its place.
@@ -133,7 +149,14 @@ impl Leaves {
             IsNamedAlone standing.now.frames.holds frame page →
             list_any (nat_eq page) pages.now ≡ false → IsPut moment standing.now self.new page) }
     {
-        if !self.is_released(layout, standing, pages, page) {
+        if !is_released(layout, standing, pages, page) {
+            return Ok(());
+        }
+        // Who searches the recent places asks whether the page is a leaf.
+        if self.put_behind(standing, moment, page)? {
+            return Ok(());
+        }
+        if !self.is_leaf(layout, standing, page) {
             return Ok(());
         }
         self.put(standing, moment, page)
@@ -156,7 +179,8 @@ impl Leaves {
             IsNamedAlone standing.now.frames.holds frame page →
             list_any (nat_eq page) pages.now ≡ false → IsPut moment standing.now self.new page) }
     {
-        for page in held.iter() {
+        // Of pages that were named at once the greatest comes first.
+        for page in held.iter().rev() {
             self.release_page(layout, standing, moment, pages, *page)?;
         }
         Ok(())
@@ -209,48 +233,17 @@ impl Leaves {
         )
     }
 
-    /// Whether no frame pins the page by name, it is no root page, and at most one page stands on it.
-    pub fn is_baring(&self, layout: &Plan, standing: &Standing, page: u32) -> bool
-        ensures { (entries : ℕ) (frames : List Frame) → Agrees entries frames standing.now →
-            Ranks layout.now frames standing.now self.now → page < layout.now.pages →
-            nat_lt page layout.now.roots ≡ false →
-            count_on layout.now (is_held (shown standing.now frames)) page ≤ 1 →
-            IsUnnamed (names standing.now.frames.holds) page → result ≡ true }
-    {
-        page >= layout.roots()
-            && !standing.frames.is_named(page)
-            && count_at(&self.lowers, page) <= 1
-    }
-
-    /// Puts a page that becomes a leaf once one page fewer stands on it into its place.
-    fn bare_page(&mut self, layout: &Plan, standing: &Standing, page: u32) -> Result<(), Memory>
+    /// Puts a page into the place that it has once it is installed.
+    fn put_installed(&mut self, standing: &Standing, page: u32) -> Result<(), Memory>
+        requires { standing.now.entries < 2 ^ 64 - 1 }
         ensures grows { Grows self.old self.new }
-        ensures ok { (entries : ℕ) (frames : List Frame) → Agrees entries frames standing.now →
-            Ranks layout.now frames standing.now self.old → OnOk result (page < layout.now.pages →
-            nat_lt page layout.now.roots ≡ false →
-            count_on layout.now (is_held (shown standing.now frames)) page ≤ 1 →
-            IsBare frames standing.now self.new page) }
+        ensures ok { OnOk result (stands self.new (standing.now.entries + 1) page ≡ true) }
     {
-        if !self.is_baring(layout, standing, page) {
+        let count = standing.entries + 1;
+        if standing.frames.last_moment().is_none() && self.recent.put_behind(count, page)? {
             return Ok(());
         }
-        self.put(standing, standing.frames.last_moment(), page)
-    }
-
-    /// Puts the uppers of the page that become leaves once it goes into their places.
-    fn bare(&mut self, layout: &Plan, standing: &Standing, page: u32) -> Result<(), Memory>
-        ensures grows { Grows self.old self.new }
-        ensures ok { (entries : ℕ) (frames : List Frame) → Agrees entries frames standing.now →
-            Ranks layout.now frames standing.now self.old → OnOk result ((upper : ℕ) →
-            is_upper layout.now upper page ≡ true → upper < layout.now.pages →
-            nat_lt upper layout.now.roots ≡ false →
-            count_on layout.now (is_held (shown standing.now frames)) upper ≤ 1 →
-            IsBare frames standing.now self.new upper) }
-    {
-        for upper in layout.uppers_of(page) {
-            self.bare_page(layout, standing, *upper)?;
-        }
-        Ok(())
+        insert(&mut self.order, count, page)
     }
 
     /// Puts the pages that become leaves by the entry, or that it lets go of, into their places. After a
@@ -275,7 +268,7 @@ impl Leaves {
                 let moment = frames.moment_without(*frame);
                 self.let_go(layout, standing, *frame, moment, &[])
             }
-            What::Install { page, .. } => insert(&mut self.order, standing.entries + 1, *page),
+            What::Install { page, .. } => self.put_installed(standing, *page),
             What::Take { victim, .. } => match victim {
                 Some(victim) => self.bare(layout, standing, *victim),
                 None => Ok(()),

@@ -1,5 +1,5 @@
 -- Worked examples of a pool's history, and of what is kept of its frames and makers, computed.
-use Rattle.std.proofs.Common.{◌≡◌, ℕ, true, false, [], ◌∷◌, map, None, Some, refl}
+use Rattle.std.proofs.Common.{◌≡◌, ℕ, true, false, [], ◌∷◌, map, None, Some, refl, arith}
 use Rattle.std.specs.BTreeSet.{BTreeSet}
 use Rattle.std.specs.declared.cmp.Ordering.TheVariants.{Less, Equal, Greater}
 use Rattle.std.specs.declared.cmp.Reverse.{Reverse}
@@ -7,9 +7,11 @@ use Rattle.journal.specs.declared.entries.Entry.{Entry}
 use Rattle.journal.specs.declared.entries.What.{What}
 use Rattle.journal.specs.declared.entries.What.TheVariants.{Pin, Narrow, Unpin, Fail, Starve, Stop}
 use Rattle.journal.specs.declared.layouts.Layout.{Layout}
-use Rattle.pool_rules.specs.State.{State, state_of}
+use Rattle.pool_leaves.specs.Recent.{is_recent}
+use Rattle.pool_rules.specs.State.{State, opening, state_of}
 use Rattle.residency.specs.History.{begun, entered}
 use Rattle.residency.specs.Recalled.{falling, falling_cmp, faults_of, frame_begun, is_frame, is_listed}
+use Rattle.residency.specs.Stalest.{IsCandidate, IsStalest}
 
 abbrev entry : ℕ → What → Entry
 entry by what = record { by = by; what = what }
@@ -56,3 +58,21 @@ listed = record { keys = falling 9 ∷ falling 4 ∷ [] }
 
 pub is_listed_each : map (is_listed listed) (4 ∷ 5 ∷ 9 ∷ []) ≡ true ∷ false ∷ true ∷ []
 is_listed_each = refl
+
+-- Victims: three pages, none on another, of which page 1 is resident and was named by the fourth entry.
+abbrev three : Layout
+three = record { pages = 3; roots = 1; slots = 2; uppers = [] ∷ [] ∷ [] ∷ [] }
+
+abbrev came_1 : State
+came_1 = record (opening three) { resident = true ∷ true ∷ false ∷ []; named = 2 ∷ 4 ∷ 0 ∷ [] }
+
+-- it is a candidate for page 2 where it stands at that count, in a search from no later one on
+pub candidate_1 : IsCandidate three came_1 2 4 (is_recent ((3, 2) ∷ (4, 1) ∷ [])) 1
+candidate_1 = record { evictable = refl; named = omega arith; stands = refl }
+
+-- where nothing stands there is no candidate
+pub stalest_none : IsStalest three came_1 2 0 (is_recent []) None
+stalest_none q candidate = none candidate.stands
+  where
+    none : false ≡ true → ⊥
+    none h = cc

@@ -88,8 +88,8 @@ before-entry layout journal e x stands bounds legal allowed =
 
 -- the entry stands, its leaves have their places, and the pages that stand on others are counted
 pub Ranks-entered : (layout : Layout) (journal : List Entry) (e : Entry) (old new : Standing) (before offered leaves : Leaves) → Stands (state_of layout journal).entries old (state_of layout journal) → Ranks layout (state_of layout journal).frames old before → InBounds layout → IsLegal layout journal → is_allowed layout journal e ≡ true → IsReady layout (state_of layout journal).frames old e.by e.what offered → Moves e.what old new → Stands ((state_of layout journal).entries + 1) new (after (state_of layout journal) e) →
-    CountsLowers layout (is_held (changed (state_of layout journal) e.by e.what)) leaves.lowers.items → leaves.order ≡ offered.order → leaves.parked ≡ offered.parked → Ranks layout (after (state_of layout journal) e).frames new leaves
-Ranks-entered layout journal e old new before offered leaves was ranks bounds legal allowed ready moves stands lowers order parked =
+    CountsLowers layout (is_held (changed (state_of layout journal) e.by e.what)) leaves.lowers.items → leaves.recent ≡ offered.recent → leaves.order ≡ offered.order → leaves.parked ≡ offered.parked → Ranks layout (after (state_of layout journal) e).frames new leaves
+Ranks-entered layout journal e old new before offered leaves was ranks bounds legal allowed ready moves stands lowers recent order parked =
     let s = state_of layout journal in
     let is = before-entry layout journal e old was bounds legal allowed in
     let shows : shown new (after s e).frames ≡ after (shown old s.frames) e = stands.shows ∙ ap (λ (t : State). after t e) (sym was.shows) in
@@ -98,5 +98,5 @@ Ranks-entered layout journal e old new before offered leaves was ranks bounds le
     let P : State → Type 0 = λ t. CountsLowers layout (is_held t) leaves.lowers.items in
     record {
       lowers = subst P (sym stands.shows) lowers;
-      places = Places-same layout (after s e).frames new offered leaves order parked placed;
+      places = Places-same layout (after s e).frames new offered leaves recent order parked placed;
     }

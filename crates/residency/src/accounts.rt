@@ -1,4 +1,4 @@
-ghost use Rattle.std.specs.Prelude.{◌≡◌, ◌++◌, ◌∷◌, ◌<◌, ◌-◌, ◌^◌, [], true, IfOk, OnOk, OnErr, List, ℕ};
+ghost use Rattle.std.specs.Prelude.{◌≡◌, ◌++◌, ◌∷◌, ◌<◌, ◌-◌, ◌^◌, [], true, IfOk, OnOk, OnErr, List, length, take, ℕ};
 ghost use Rattle.journal.specs.declared.entries.Entry.{Entry};
 ghost use Rattle.journal.specs.declared.entries.What.TheVariants.{Pin};
 ghost use Rattle.residency.specs.Recalled.{Recalls, frame_begun};
@@ -76,7 +76,8 @@ impl Account {
     }
 
     /// Enters an entry but for what it tells, and what doesn't belong there any more stays in the
-    /// indexes. After Memory all stands as before, and so may what was put into the indexes.
+    /// indexes. After Memory all stands as before, and so may what was put into the indexes: of the recent
+    /// places the first are those that stood before.
     fn change(
         &mut self,
         alloc: Global,
@@ -94,7 +95,10 @@ impl Account {
         ensures err { (journal : List Entry) → IsAt layout.now (state_of layout.now journal) self.old →
             InBounds layout.now → IsLegal layout.now journal →
             is_allowed layout.now journal entry.now ≡ true →
-            OnErr result (IsAt layout.now (state_of layout.now journal) self.new) }
+            OnErr result (IsAt layout.now (state_of layout.now journal) (record self.new {
+            leaves = record self.new.leaves { recent = self.old.leaves.recent } })) }
+        ensures recent { OnErr result (take (length self.old.leaves.recent) self.new.leaves.recent
+            ≡ self.old.leaves.recent) }
         ensures recall { self.new.recall ≡ self.old.recall }
     {
         self.offers
@@ -122,11 +126,13 @@ impl Account {
             .tickets_touched(alloc, &self.standing.wants, &entry.what)?;
         let begun = frame_begun(&self.standing, entry);
         self.recall.reserve(begun, entry)?;
+        let recent = self.leaves.recent.len();
         let changed = self.change(alloc, layout, entry, &tickets);
         if changed.is_err() {
             self.offers
                 .withdraw(layout, &self.standing, &entry.what, &tickets);
-            self.leaves.withdraw(layout, &self.standing, &entry.what);
+            self.leaves
+                .withdraw(layout, &self.standing, &entry.what, recent);
             self.recall.release(begun, entry);
             return Err(Memory);
         }

@@ -20,7 +20,7 @@ returns c = λ layout entries frames leaves same parked agrees ranked.
     let there : ranks leaves.parked (get_or x.since.items page 0) page ≡ true = rw at parked in
     let was : Leaves = record leaves { order = c.args.order.now } in
     let now : Leaves = record leaves { order = c.remove.new.places } in
-    Ranks-unordered layout frames x was now c.count_at-2.result page refl refl c.remove.ensures.removed (λ named leaf. ((λ loose. never-both (is_pinned (shown x frames) page) (pinned-covered entries frames x page some.0 agrees some.1 (leaf-parts layout (shown x frames) page leaf).resident (rw at some.2)) loose), (λ unnamed. there))) (Ranks-itself layout frames x leaves c.args.order.now same ranked)
+    Ranks-unordered layout frames x was now c.count_at-2.result page refl refl refl c.remove.ensures.removed (λ named leaf. ((λ loose. never-both (is_pinned (shown x frames) page) (pinned-covered entries frames x page some.0 agrees some.1 (leaf-parts layout (shown x frames) page leaf).resident (rw at some.2)) loose), (λ unnamed. there))) (Ranks-itself layout frames x leaves c.args.order.now same ranked)
 
 pub returns-then-count_at-since : goal.returns-then-count_at-since
 returns-then-count_at-since c = λ layout entries frames leaves same parked agrees ranked.

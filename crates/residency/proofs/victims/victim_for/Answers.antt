@@ -1,44 +1,28 @@
-use Rattle.std.proofs.Common.{ap, reverse, sym, ◌∙◌}
-use Rattle.std.proofs.lemmas.List.Kept.{IsStrictlySortedBy-filter}
-use Rattle.std.specs.BTreeMap.Range.{range_contains}
-use Rattle.std.specs.BTreeSet.{keys_between}
-use Rattle.std.specs.List.{find}
-use Rattle.std.specs.Map.Iter.{deref}
-use Rattle.std.specs.declared.ops.Bound.TheVariants.{Included, Unbounded}
-use Rattle.pool_leaves.specs.Leaf.{fits, rank_cmp}
+use Rattle.std.proofs.Common.{◌∙◌, ap, sym}
+use Rattle.pool_leaves.specs.Leaf.{ranks}
+use Rattle.pool_leaves.specs.Recent.{is_recent}
 use Rattle.pool_state.specs.Shown.{shown}
-use Rattle.residency.proofs.Foremost.{HasEvictable-from, find-later, find-here, find-end, last-more, last-all, reverse-last, victim-found, victim-none}
-use Rattle.pool_leaves.proofs.Leafing.{end_at}
+use Rattle.residency.proofs.Foremost.{HasEvictable-from, either, page_in, victim-stalest}
 use Rattle.residency.proofs.victims.victim_for.Goals as goal
 
-pub loop-place-init : goal.loop-place-init
-loop-place-init c = λ entries frames agrees ranks.
-    let all = ap (λ i. i.iter) c.into_iter-place-iterator.ensures.into_iter_gives ∙ (c.rev-place-items.ensures.source ∙ c.range-places.ensures.between tt) in
-    ap (λ places. find (fits c.args.layout.now (shown c.args.account.now.standing frames) c.args.page) (reverse places)) all
-
-pub loop-place-preserved : goal.loop-place-preserved
-loop-place-preserved c = λ entries frames agrees ranks.
-    let s = shown c.args.account.now.standing frames in
-    let rest = reverse-last _ _ _ (last-more deref c.loop-place.place-iterator.iter c.next.new.self.iter _ _ c.in-Some.is c.next.ensures.steps) in
-    find-later (fits c.args.layout.now s c.args.page) (reverse c.loop-place.place-iterator.iter) (reverse c.next.new.self.iter) _ _ rest (sym (c.fits.ensures entries frames agrees ranks) ∙ c.if-fits.false) (c.loop-place.invariant entries frames agrees ranks)
-
-pub returns-then-fits : goal.returns-then-fits
-returns-then-fits c = λ entries frames agrees ranks.
+pub returns-in_err-victim : goal.returns-in_err-victim
+returns-in_err-victim c = λ entries frames agrees ranked.
     let x = c.args.account.now.standing in
     let s = shown x frames in
-    let order = c.args.account.now.leaves.order in
-    let places = keys_between rank_cmp Unbounded (Included (end_at c.after-start.result)) order in
-    let rest = reverse-last _ _ _ (last-more deref c.loop-place.place-iterator.iter c.next.new.self.iter _ _ c.in-Some.is c.next.ensures.steps) in
-    let has = HasEvictable-from entries c.args.layout.now frames x c.args.account.now.leaves c.args.page c.after-start.result c.last_moment.result agrees ranks c.last_moment.ensures c.after-start.ensures in
-    victim-found c.args.layout.now s c.args.page places _ ranks.places.flag_a_page (IsStrictlySortedBy-filter rank_cmp (range_contains rank_cmp Unbounded (Included (end_at c.after-start.result))) order.keys c.range-places.ensures.ordered) has
-    (find-here (fits c.args.layout.now s c.args.page) (reverse c.loop-place.place-iterator.iter) (reverse c.next.new.self.iter) (reverse places) _ rest (sym (c.if-fits.ensures entries frames agrees ranks)) (c.loop-place.invariant entries frames agrees ranks))
+    let layout = c.args.layout.now in
+    let leaves = c.args.account.now.leaves in
+    let start = c.after-start.result in
+    let listed = HasEvictable-from entries layout frames x leaves c.args.page start c.last_moment.result agrees ranked c.last_moment.ensures c.after-start.ensures in
+    let stalest = c.staler.ensures layout s c.args.page start (is_recent leaves.recent) (ranks leaves.order) (c.first_recent-recent.ensures entries frames agrees ranked) (c.last_ordered.ensures entries frames agrees ranked) in
+    c.from_residual.ensures ∙ (sym (ap page_in c.in_err-victim.was) ∙ victim-stalest layout s c.args.page start (either (is_recent leaves.recent) (ranks leaves.order)) c.staler.result ranked.places.flag_a_page listed stalest)
 
 pub returns : goal.returns
-returns c = λ entries frames agrees ranks.
+returns c = λ entries frames agrees ranked.
     let x = c.args.account.now.standing in
     let s = shown x frames in
-    let places = keys_between rank_cmp Unbounded (Included (end_at c.after-start.result)) c.args.account.now.leaves.order in
-    let rest = ap reverse (last-all deref c.loop-place.place-iterator.iter c.next.new.self.iter _ c.in-None.is c.next.ensures.steps) in
-    let has = HasEvictable-from entries c.args.layout.now frames x c.args.account.now.leaves c.args.page c.after-start.result c.last_moment.result agrees ranks c.last_moment.ensures c.after-start.ensures in
-    victim-none c.args.layout.now s c.args.page places has
-    (find-end (fits c.args.layout.now s c.args.page) (reverse c.loop-place.place-iterator.iter) (reverse places) rest (c.loop-place.invariant entries frames agrees ranks))
+    let layout = c.args.layout.now in
+    let leaves = c.args.account.now.leaves in
+    let start = c.after-start.result in
+    let listed = HasEvictable-from entries layout frames x leaves c.args.page start c.last_moment.result agrees ranked c.last_moment.ensures c.after-start.ensures in
+    let stalest = c.staler.ensures layout s c.args.page start (is_recent leaves.recent) (ranks leaves.order) (c.first_recent-recent.ensures entries frames agrees ranked) (c.last_ordered.ensures entries frames agrees ranked) in
+    sym (ap page_in c.in_ok-victim.was) ∙ victim-stalest layout s c.args.page start (either (is_recent leaves.recent) (ranks leaves.order)) c.staler.result ranked.places.flag_a_page listed stalest

@@ -1,14 +1,14 @@
-use Rattle.std.proofs.Common.{ℕ, ⊎_elim, refl, subst, length, ◌≤◌}
+use Rattle.std.proofs.Common.{ℕ, ⊎_elim, subst, length, ◌≤◌}
 use Rattle.std.proofs.lemmas.List.{take_all}
 use Rattle.journal.specs.Layout.{uppers_of}
 use Rattle.pool_leaves.specs.Parking.{IsBare}
 use Rattle.pool_leaves.proofs.Leafing.{any-more}
-use Rattle.pool_leaves.proofs.Parked.{Grows-trans, IsBare-wider, Ranks-wider}
+use Rattle.pool_leaves.proofs.Parked.{Grows-itself, Grows-trans, IsBare-wider, Ranks-wider}
 use Rattle.pool_leaves.proofs.leaves.Leaves.bare.Goals as goal
 
 pub loop-upper-init : goal.loop-upper-init
 loop-upper-init c = record {
-  grows = record { lowers = refl; order = λ n p h. h; parked = λ n p h. h };
+  grows = Grows-itself c.args.self.now;
   bare = λ entries frames agrees ranked upper has below inner few. cc;
 }
 

@@ -1,4 +1,4 @@
-use Rattle.std.proofs.Common.{◌≡◌, refl, Some, None, true}
+use Rattle.std.proofs.Common.{◌≡◌, Some, None, true}
 use Rattle.pool_rules.specs.Rules.{loads}
 use Rattle.pool_state.specs.Shown.{shown}
 use Rattle.pool_leaves.proofs.Followed.{taken-told}
@@ -23,7 +23,7 @@ returns-in-Install-clause-ok c = λ frames journal by bounds agrees sound allowe
     let x = c.args.standing.now in
     let i = c.in-Install in
     let loaded : loads (shown x frames) by i.page ≡ true = rw i.is at allowed in
-    rw i.is (on_ok c.insert.result (λ there. IsReady-installed c.args.layout.now x.entries frames x by i.page i.digest c.args.self.now _ agrees sound loaded ranked (record { lowers = refl; order = c.insert.ensures.wider; parked = λ n p h. h }) there) c.insert.ensures.ok)
+    rw i.is (on_ok c.put_installed.result (λ there. IsReady-installed c.args.layout.now x.entries frames x by i.page i.digest c.args.self.now c.put_installed.new.self agrees sound loaded ranked c.put_installed.ensures.grows there) c.put_installed.ensures.ok)
 
 pub returns-in-Some-clause-ok : goal.returns-in-Some-clause-ok
 returns-in-Some-clause-ok c = λ frames journal by bounds agrees sound allowed ranked.

@@ -6,7 +6,7 @@ returns-in-Install c = λ entries frames agrees ranked.
 
 pub returns-in-Full : goal.returns-in-Full
 returns-in-Full c = λ entries frames agrees ranked.
-    c.drop_from.ensures c.args.layout.now entries frames agrees ranked
+    c.drop_searched.ensures entries frames agrees ranked
 
 pub returns-in-Unpin : goal.returns-in-Unpin
 returns-in-Unpin c = λ entries frames agrees ranked.

@@ -8,4 +8,4 @@ loop-preserved c = λ layout entries frames agrees ranked.
     let x = c.args.standing.now in
     let sofar = c.loop.invariant layout entries frames agrees ranked in
     let place = c.in-Some.place.now in
-    Ranks-unparked layout frames x c.loop.self _ place.0.0 place.1 refl refl c.remove.ensures.removed (λ at leaf unnamed. sofar.places.listed place.1 leaf (unnamed-unpinned entries frames x place.1 agrees unnamed (λ m some. rw (sym at) at (c.if-is_covered.ensures.none refl m some)))) sofar
+    Ranks-unparked layout frames x c.loop.self _ place.0.0 place.1 refl refl refl c.remove.ensures.removed (λ at leaf unnamed. sofar.places.listed place.1 leaf (unnamed-unpinned entries frames x place.1 agrees unnamed (λ m some. rw (sym at) at (c.if-is_covered.ensures.none refl m some)))) sofar

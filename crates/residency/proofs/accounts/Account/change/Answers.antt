@@ -7,7 +7,7 @@ use Rattle.pool_rules.specs.State.{State, is_held, is_loading, state_of}
 use Rattle.pool_state.proofs.Agreed.{on_err}
 use Rattle.residency.proofs.Kept.{IsAt-push, Ranks-entered, before-entry}
 use Rattle.pool_offers.proofs.Offering.{AreOffered-wider, AreOffered-after, AreOffered-entered, Offers-for}
-use Rattle.pool_leaves.proofs.Parked.{Ranks-stays, Ranks-wider}
+use Rattle.pool_leaves.proofs.Parked.{Ranks-grown, Ranks-stays}
 use Rattle.pool_rules.proofs.Soundness.{IsSound-state_of}
 use Rattle.residency.proofs.accounts.Account.change.Goals as goal
 
@@ -30,7 +30,7 @@ returns-in_err-offer-2-clause-err c = λ journal at bounds legal allowed.
     let queue = was.standing.wants.queue in
     on_err c.from_residual-in_err-offer-2.result _ (record {
       stands = at.stands;
-      ranks = Ranks-wider layout s.frames was.standing was.leaves c.offer-2.new.self c.offer-2.ensures.grows at.ranks;
+      ranks = Ranks-grown layout s.frames was.standing was.leaves c.offer-2.new.self c.offer-2.ensures.grows at.ranks;
       offers = AreOffered-wider layout s queue queue was.offers c.offer.new.self c.offer.ensures.lowers c.offer.ensures.takeable c.offer.ensures.loading (λ ticket want here. here) at.offers;
     })
 
@@ -42,10 +42,10 @@ returns-in_err-enter-clause-err c = λ journal at bounds legal allowed.
     let before = at.stands in
     let sound = IsSound-state_of layout journal bounds legal in
     let stands = c.in_err-enter.ensures.err layout journal s before sound allowed in
-    let wider = Ranks-wider layout s.frames was.standing was.leaves c.offer-2.new.self c.offer-2.ensures.grows at.ranks in
+    let wider = Ranks-grown layout s.frames was.standing was.leaves c.offer-2.new.self c.offer-2.ensures.grows at.ranks in
     on_err c.from_residual-in_err-enter.result _ (record {
       stands = stands;
-      ranks = Ranks-stays layout s was.standing c.enter.new.self c.offer-2.new.self at.stands.shows stands.shows (c.in_err-enter.ensures.stays layout journal s before sound allowed) wider;
+      ranks = Ranks-stays layout s was.standing c.enter.new.self (record c.offer-2.new.self { recent = was.leaves.recent }) at.stands.shows stands.shows (c.in_err-enter.ensures.stays layout journal s before sound allowed) wider;
       offers = AreOffered-wider layout s was.standing.wants.queue c.enter.new.self.wants.queue was.offers c.offer.new.self c.offer.ensures.lowers c.offer.ensures.takeable c.offer.ensures.loading c.in_err-enter.ensures.err_from at.offers;
     })
 
@@ -76,6 +76,6 @@ returns-clause-ok c = λ journal at bounds legal allowed lists.
     let lowers = c.follow.ensures.lowers s journal e.by bounds sound allowed (rw c.offer-2.ensures.grows.lowers (subst C shows at.ranks.lowers)) in
     IsAt-push layout journal e _ (record {
       stands = stands;
-      ranks = Ranks-entered layout journal e was.standing c.enter.new.self was.leaves c.offer-2.new.self c.follow.new.self at.stands at.ranks bounds legal allowed ready (c.in_ok-enter.ensures.moves layout journal s at.stands sound allowed) stands lowers c.follow.ensures.order c.follow.ensures.parked;
+      ranks = Ranks-entered layout journal e was.standing c.enter.new.self was.leaves c.offer-2.new.self c.follow.new.self at.stands at.ranks bounds legal allowed ready (c.in_ok-enter.ensures.moves layout journal s at.stands sound allowed) stands lowers c.follow.ensures.recent c.follow.ensures.order c.follow.ensures.parked;
       offers = AreOffered-after layout s e c.enter.new.self.wants.queue c.offer.new.self (AreOffered-entered layout s e.by e.what was.standing.entries was.standing.wants.queue c.enter.new.self.wants.queue was.offers c.offer.new.self tickets puts lists c.in_ok-enter.ensures.from (ap (λ (t : State). t.wants) stands.shows) stands.agrees.queued.own_page at.offers);
     })

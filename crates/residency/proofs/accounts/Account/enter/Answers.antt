@@ -1,5 +1,6 @@
 use Rattle.std.proofs.Common.{◌≡◌, length, ◌++◌, ◌∷◌, [], ◌∙◌, sym, subst}
 use Rattle.residency.specs.Kept.{IsAt}
+use Rattle.residency.specs.declared.accounts.Account.{Account}
 use Rattle.residency.specs.Recalled.{frame_begun}
 use Rattle.pool_rules.specs.State.{State, state_of}
 use Rattle.pool_state.proofs.Agreed.{from_ok, from_err}
@@ -14,8 +15,11 @@ returns-then-is_err-clause-err c = λ journal keeps bounds legal allowed.
     let s = state_of layout journal in
     let account = c.change-changed.new.self in
     let reserved : IsAt layout s (record c.args.self.now { recall = c.reserve.new.self }) = IsAt-kept layout journal c.args.self.now c.reserve.new.self keeps in
-    let at = from_err c.change-changed.result _ (sym c.is_err.ensures.value ∙ c.if-is_err.true) (c.change-changed.ensures.err journal reserved bounds legal allowed) in
-    let pruned = IsAt-pruned layout s account c.withdraw-then-is_err.new.self c.withdraw.new.self c.withdraw-then-is_err.ensures c.withdraw.ensures at in
+    let failed = sym c.is_err.ensures.value ∙ c.if-is_err.true in
+    let at = from_err c.change-changed.result _ failed (c.change-changed.ensures.err journal reserved bounds legal allowed) in
+    let first = from_err c.change-changed.result _ failed c.change-changed.ensures.recent in
+    let was : Account = record account { leaves = record account.leaves { recent = c.args.self.now.leaves.recent } } in
+    let pruned = IsAt-pruned layout s was c.withdraw-then-is_err.new.self c.withdraw.new.self (λ entries frames agrees ranked. c.withdraw-then-is_err.ensures entries frames agrees (rw (c.len-recent.ensures, first) ranked)) c.withdraw.ensures at in
     let P : State → Type 0 = λ t. c.frame_begun-begun.result ≡ frame_begun t e.by e.what in
     let begun = subst P keeps.stands.shows (c.frame_begun-begun.ensures (length journal) s.frames keeps.stands.agrees) in
     let awaits = rw (← c.change-changed.ensures.recall) at (c.in_ok-reserve.ensures.ok journal keeps.recalls) in

@@ -8,7 +8,7 @@ use Rattle.pool_leaves.specs.Leaf.{fits, rank_cmp}
 use Rattle.pool_leaves.specs.Parking.{Ranks}
 use Rattle.pool_state.specs.Shown.{shown}
 use Rattle.pool_leaves.proofs.Leafing.{end_at}
-use Rattle.residency.proofs.victims.victim_for.Given as goal
+use Rattle.residency.proofs.victims.last_ordered.Given as goal
 
 -- the first that fits of the places left, from the last on, is the first of all
 abbrev pub invariant-loop-place : goal.invariant-loop-place
