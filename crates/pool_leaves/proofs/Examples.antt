@@ -33,7 +33,11 @@ count_on_each = refl
 pub count_on_held : map (count_on branch (λ q. q == 2)) pages ≡ 0 ∷ 1 ∷ 0 ∷ 0 ∷ []
 count_on_held = refl
 
--- Leaves: neither the root page nor one that isn't resident.
+-- Leaves: no root page, though nothing that is resident stands on it.
+pub is_leaf_root : map (is_leaf branch (opening branch)) pages ≡ false ∷ false ∷ false ∷ false ∷ []
+is_leaf_root = refl
+
+-- nor a page that isn't resident
 pub is_leaf_each : map (is_leaf branch came_1) pages ≡ false ∷ true ∷ false ∷ false ∷ []
 is_leaf_each = refl
 

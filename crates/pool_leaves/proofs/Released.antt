@@ -1,7 +1,7 @@
 -- The leaves have their places before an entry that lets go of them, or makes them.
 use Rattle.std.proofs.Common.{◌≡◌, ◌≢◌, ℕ, ◌+◌, ◌<◌, ◌≤◌, ◌==◌, List, [], ◌∷◌, Bool, true, false, not, cond, ◌&&◌, ◌⊎◌, inl, inr, ⊎_elim, Option, Some, None, nat_cmp, nat_eq, nat_lt, nat_le, length, get_or, set, map, filter, refl, sym, ap, ◌∙◌, arith, get_or-set_same, get_or-set_other}
 use Rattle.std.specs.BTreeMap.{get}
-use Rattle.std.specs.BTreeSet as tree
+use Rattle.pool_state.specs.Pages.{has_page}
 use Rattle.std.specs.List.{list_any, list_all}
 use Rattle.std.specs.Option.{IfSome}
 use Rattle.std.proofs.lemmas.Bool.{cases_lt}
@@ -129,7 +129,7 @@ other-ended n m frames apart = frame_at-others n m frames ∙ ap (λ b. cond b N
 named-still : (entries : ℕ) (frames frames' : List Frame) (x : Standing) (n p : ℕ) → Agrees entries frames x → frame_at n frames' ≡ frame_at n frames → names x.frames.holds n p ≡ true → list_any (λ f. get_or f.pins p false) frames' ≡ true
 named-still entries frames frames' x n p agrees same has =
     let found = of-names p (get nat_cmp x.frames.holds n) has in
-    still-pinned entries frames frames' x n p found.0 agrees found.1 same (or-left (tree.contains nat_cmp found.0.pages p) _ found.2)
+    still-pinned entries frames frames' x n p found.0 agrees found.1 same (or-left (has_page found.0.pages p) _ found.2)
 
 -- what a moment of another frame covers
 covered-still : (entries : ℕ) (frames frames' : List Frame) (x : Standing) (frame p : ℕ) (moment : Option ℕ) → Agrees entries frames x → ((n : ℕ) → n ≢ frame → frame_at n frames' ≡ frame_at n frames) → IfSome moment (λ m. (f : ℕ) × (f ≢ frame) × (get nat_cmp x.frames.moments m ≡ Some f)) → is_resident (shown x frames) p ≡ true → covers moment (get_or x.since.items p 0) ≡ true → list_any (λ f. get_or f.pins p false) frames' ≡ true
@@ -137,7 +137,7 @@ covered-still entries frames frames' x frame p None agrees same other resident c
 covered-still entries frames frames' x frame p (Some m) agrees same (f, apart, at) resident covered =
     let hold = of-moment (get nat_cmp x.frames.holds f) m (agrees.indexed.live f m at) in
     let covers_it : covers hold.0.moment (get_or x.since.items p 0) ≡ true = ap (λ o. covers o (get_or x.since.items p 0)) hold.2 ∙ covered in
-    still-pinned entries frames frames' x f p hold.0 agrees hold.1 (same f apart) (or-right (tree.contains nat_cmp hold.0.pages p) _ (rw (resident, covers_it) refl))
+    still-pinned entries frames frames' x f p hold.0 agrees hold.1 (same f apart) (or-right (has_page hold.0.pages p) _ (rw (resident, covers_it) refl))
 
 still-other : (n m : ℕ) (b : Bool) → n ≢ m → b ≡ true → (not (m == n) && b) ≡ true
 still-other n m b apart h = rw (apart-eqb n m apart) h

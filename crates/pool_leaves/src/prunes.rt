@@ -228,8 +228,12 @@ impl Leaves {
         let Some(hold) = standing.frames.holds.get(&frame) else {
             return;
         };
-        for page in hold.pages.iter() {
+        let (listed, installed) = hold.pages.parts();
+        for page in listed {
             self.tidy(layout, standing, *page);
+        }
+        for newer in installed.iter() {
+            self.tidy(layout, standing, *newer);
         }
     }
 

@@ -10,6 +10,7 @@ ghost use Rattle.journal.specs.Layout.{InBounds};
 ghost use Rattle.pool_leaves.specs.Leaf.{IsWider, is_leaf, ranks};
 ghost use Rattle.pool_leaves.specs.Parking.{Grows, IsPut, IsReady, LetsGo, Ranks, stands};
 ghost use Rattle.pool_state.specs.Naming.{IsNamedAlone, names};
+ghost use Rattle.pool_state.specs.Pages.{has_page};
 ghost use Rattle.pool_rules.specs.Rules.{allows};
 ghost use Rattle.pool_state.specs.Shown.{shown};
 ghost use Rattle.pool_rules.specs.Sound.{IsSound};
@@ -17,7 +18,7 @@ ghost use Rattle.pool_rules.specs.Sound.{IsSound};
 use crate::leaves::{Leaves, insert};
 use geom_core::Memory;
 use journal::What;
-use pool_state::{Plan, Standing, count_at};
+use pool_state::{NamedPages, Plan, Standing, count_at};
 use std::cmp::Reverse;
 use std::collections::BTreeSet;
 
@@ -162,8 +163,34 @@ impl Leaves {
         self.put(standing, moment, page)
     }
 
-    /// Puts the leaves of a frame's pages, but for those, into their places.
-    fn release(
+    /// Puts the leaves of the pages that a frame holds in a list, but for those, into their places.
+    fn release_listed(
+        &mut self,
+        layout: &Plan,
+        standing: &Standing,
+        held: &[u32],
+        moment: Option<u64>,
+        pages: &[u32],
+    ) -> Result<(), Memory>
+        ensures grows { Grows self.old self.new }
+        ensures ok { (entries : ℕ) (frames : List Frame) → Agrees entries frames standing.now →
+            Ranks layout.now frames standing.now self.old → OnOk result ((page : ℕ) →
+            has_page held.now page ≡ true →
+            is_leaf layout.now (shown standing.now frames) page ≡ true → (frame : ℕ) →
+            IsNamedAlone standing.now.frames.holds frame page →
+            list_any (nat_eq page) pages.now ≡ false → IsPut moment standing.now self.new page) }
+    {
+        // Of pages that were named at once the greatest comes first.
+        for count in 0..held.len() {
+            let page = held[held.len() - 1 - count];
+            self.release_page(layout, standing, moment, pages, page)?;
+        }
+        Ok(())
+    }
+
+    /// Puts the leaves of the pages that a frame holds in a set, but for those, into their places. Each was
+    /// named when it came, and mostly they came in the order of their numbers.
+    fn release_set(
         &mut self,
         layout: &Plan,
         standing: &Standing,
@@ -179,11 +206,32 @@ impl Leaves {
             IsNamedAlone standing.now.frames.holds frame page →
             list_any (nat_eq page) pages.now ≡ false → IsPut moment standing.now self.new page) }
     {
-        // Of pages that were named at once the greatest comes first.
-        for page in held.iter().rev() {
+        for page in held.iter() {
             self.release_page(layout, standing, moment, pages, *page)?;
         }
         Ok(())
+    }
+
+    /// Puts the leaves of a frame's pages, but for those, into their places.
+    fn release(
+        &mut self,
+        layout: &Plan,
+        standing: &Standing,
+        held: &NamedPages,
+        moment: Option<u64>,
+        pages: &[u32],
+    ) -> Result<(), Memory>
+        ensures grows { Grows self.old self.new }
+        ensures ok { (entries : ℕ) (frames : List Frame) → Agrees entries frames standing.now →
+            Ranks layout.now frames standing.now self.old → OnOk result ((page : ℕ) →
+            has_page held.now page ≡ true →
+            is_leaf layout.now (shown standing.now frames) page ≡ true → (frame : ℕ) →
+            IsNamedAlone standing.now.frames.holds frame page →
+            list_any (nat_eq page) pages.now ≡ false → IsPut moment standing.now self.new page) }
+    {
+        let (listed, installed) = held.parts();
+        self.release_listed(layout, standing, listed, moment, pages)?;
+        self.release_set(layout, standing, installed, moment, pages)
     }
 
     /// Puts the leaves that only the frame pins by name, but for those, into their places.

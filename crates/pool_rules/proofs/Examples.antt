@@ -3,14 +3,15 @@ use Rattle.std.proofs.Common.{◌≡◌, ℕ, Bool, true, false, List, [], ◌�
 use Rattle.std.specs.Prelude.{replicate}
 use Rattle.geom_core.specs.declared.digests.Digest32.{Digest32}
 use Rattle.journal.specs.declared.entries.Entry.{Entry}
+use Rattle.journal.specs.declared.entries.Spoilt.TheVariants.{Short}
 use Rattle.journal.specs.declared.entries.What.{What}
-use Rattle.journal.specs.declared.entries.What.TheVariants.{Pin, Settle, Ask, Narrow, Unpin, Take, Install, Starve}
+use Rattle.journal.specs.declared.entries.What.TheVariants.{Pin, Settle, Ask, Narrow, Unpin, Take, Install, Fail, Spoil, Starve}
 use Rattle.journal.specs.declared.layouts.Layout.{Layout}
 use Rattle.pool_rules.specs.declared.nexts.Next.TheVariants as Next
 use Rattle.pool_rules.specs.declared.wants.Want.{Want}
 use Rattle.pool_rules.specs.Next.{next_after}
 use Rattle.pool_rules.specs.Rules.{first_refused}
-use Rattle.pool_rules.specs.State.{State, held_count, residency, state_of}
+use Rattle.pool_rules.specs.State.{State, held_count, is_loading, is_resident, residency, state_of}
 use Rattle.pool_rules.specs.Victim.{victim_after, victim_for}
 
 abbrev pub entry : ℕ → What → Entry
@@ -113,7 +114,7 @@ taken_held = refl
 abbrev want : ℕ → ℕ → Bool → Want
 want frame page settled = record { frame = frame; page = page; settled = settled }
 
-abbrev queued : List Entry
+abbrev pub queued : List Entry
 queued =
     entry 0 (Pin 0) ∷ entry 1 (Pin 1) ∷ entry 0 (Settle 0 (0 ∷ []) (2 ∷ [])) ∷ entry 1 (Ask 1 (1 ∷ 2 ∷ [])) ∷ []
 
@@ -144,6 +145,13 @@ next_for_all = refl
 pub next_for_one : next_after shared queued (Some 0) ≡ Next.Nothing
 next_for_one = refl
 
+-- once page 1 is being loaded, that is told to frame 1, which wants it, and not to frame 0
+pub next_busy_own : next_after shared (queued ++ entry 2 (Take None 1 None) ∷ []) (Some 1) ≡ Next.Busy 1
+next_busy_own = refl
+
+pub next_busy_other : next_after shared (queued ++ entry 2 (Take None 1 None) ∷ []) (Some 0) ≡ Next.Nothing
+next_busy_other = refl
+
 -- Pages 1 and 2 stand on nothing; both frames want page 1, frame 0 waits for it, and maker 2 loads it.
 abbrev pub flat : Layout
 flat = record { pages = 4; roots = 1; slots = 3; uppers = [] ∷ [] ∷ [] ∷ [] ∷ [] }
@@ -164,22 +172,20 @@ loading_maker = refl
 pub install_pins : map (λ f. f.pins) (ended_by (Install 1 digest)).frames ≡ (true ∷ true ∷ false ∷ false ∷ []) ∷ (true ∷ false ∷ false ∷ false ∷ []) ∷ []
 install_pins = refl
 
--- and ends the wants of both, as any end of a load does
-pub install_ends : (ended_by (Install 1 digest)).wants ≡ want 1 2 false ∷ []
-install_ends = refl
+-- Ends of the load: an Install, or one of these.
+abbrev pub other_ends : List What
+other_ends = Fail 1 0 1 ∷ Spoil 1 (Short 9) ∷ Starve 1 ∷ []
 
-pub starve_ends : (ended_by (Starve 1)).wants ≡ want 1 2 false ∷ []
-starve_ends = refl
+-- each takes out the wants of both frames
+pub ends_wants : map (λ what. (ended_by what).wants) (Install 1 digest ∷ other_ends) ≡ replicate 4 (want 1 2 false ∷ [])
+ends_wants = refl
 
--- but it alone makes the page resident
-pub starve_empty : (ended_by (Starve 1)).resident ≡ true ∷ false ∷ false ∷ false ∷ []
-starve_empty = refl
+-- by each the page is loaded no more, and by the Install alone it is resident
+pub ends_loading : map (λ what. is_loading (ended_by what) 1) (Install 1 digest ∷ other_ends) ≡ replicate 4 false
+ends_loading = refl
 
-pub starve_free : held_count (ended_by (Starve 1)) ≡ 1
-starve_free = refl
-
-pub install_full : held_count (ended_by (Install 1 digest)) ≡ 2
-install_full = refl
+pub ends_resident : map (λ what. is_resident (ended_by what) 1) (Install 1 digest ∷ other_ends) ≡ true ∷ false ∷ false ∷ false ∷ []
+ends_resident = refl
 
 -- what the frames pin after these entries
 abbrev pins_after : List Entry → List (List Bool)
@@ -231,6 +237,13 @@ victim_equal = refl
 -- what was never named goes first
 pub victim_unnamed : victim_for flat (record (state_of flat (idle [])) { named = 2 ∷ 4 ∷ 0 ∷ 0 ∷ [] }) 3 ≡ Some 2
 victim_unnamed = refl
+
+-- page 1, which nobody pins, goes, and it stays once a frame pins it
+pub victim_unpinned : victim_after flat asked_1 3 ≡ Some 1
+victim_unpinned = refl
+
+pub victim_pinned : victim_after flat (asked_1 ++ entry 1 (Pin 1) ∷ []) 3 ≡ None
+victim_pinned = refl
 
 -- a root page never goes, though nobody pins it
 pub victim_root : victim_after flat [] 3 ≡ None

@@ -5,9 +5,9 @@ use Rattle.geom_core.specs.declared.digests.Digest32.{Digest32}
 use Rattle.journal.specs.declared.entries.Entry.{Entry}
 use Rattle.journal.specs.declared.entries.Spoilt.TheVariants.{Digest, Grammar, Short}
 use Rattle.journal.specs.declared.entries.What.{What}
-use Rattle.journal.specs.declared.entries.What.TheVariants.{Pin, Settle, Ask, Narrow, Unpin, Take, Install, Fail, Spoil, Starve, Full, Stop}
+use Rattle.journal.specs.declared.entries.What.TheVariants.{Pin, Settle, Ask, Narrow, Unpin, Take, Install, Fail, Spoil, Full, Stop}
 use Rattle.journal.specs.declared.layouts.Layout.{Layout}
-use Rattle.pool_rules.proofs.Examples.{entry, digest, shared, asked_shared, flat, loading_1, asked_1}
+use Rattle.pool_rules.proofs.Examples.{entry, digest, shared, asked_shared, queued, flat, loading_1, other_ends, asked_1}
 use Rattle.pool_rules.specs.Rules.{first_refused, is_allowed, is_entry_of, is_wrong, last_after}
 
 -- Two pages, of which neither stands on the other.
@@ -101,8 +101,25 @@ ask_loading = refl
 pub narrow_pinned : map may (Narrow 0 (0 ∷ []) ∷ Narrow 0 [] ∷ []) ≡ true ∷ true ∷ []
 narrow_pinned = refl
 
+pub narrow_twice : may (Narrow 0 (0 ∷ 0 ∷ [])) ≡ false
+narrow_twice = refl
+
 pub narrow_unpinned : may (Narrow 0 (0 ∷ 1 ∷ [])) ≡ false
 narrow_unpinned = refl
+
+-- nor is it pinned by frame 0 where frame 1 pins it
+pub narrow_other : map (λ frame. is_allowed flat (asked_1 ++ entry 0 (Pin 1) ∷ []) (entry 0 (Narrow frame (0 ∷ 1 ∷ [])))) (0 ∷ 1 ∷ []) ≡ false ∷ true ∷ []
+narrow_other = refl
+
+-- Makers: what frame 0 does is entered by its owner, maker 0.
+abbrev of_frame : List What
+of_frame = Pin 0 ∷ Settle 0 (0 ∷ []) (2 ∷ []) ∷ Ask 0 (2 ∷ []) ∷ Narrow 0 (0 ∷ []) ∷ Unpin 0 ∷ []
+
+pub frame_owner : map may of_frame ≡ replicate 5 true
+frame_owner = refl
+
+pub frame_other : map (λ what. is_allowed flat asked_1 (entry 1 what)) of_frame ≡ replicate 5 false
+frame_other = refl
 
 -- Takes: what comes next for frame 0 is to take page 1 into a free slot.
 abbrev take_shared : ℕ → What → Option ℕ
@@ -118,18 +135,28 @@ take_other = refl
 pub take_for_all : take_shared 1 (Take None 1 None) ≡ None
 take_for_all = refl
 
+-- page 1 is next for all, but not for frame 0, which wants page 2
+pub take_unwanted : map (λ frame. is_allowed shared queued (entry 0 (Take frame 1 None))) (None ∷ Some 0 ∷ []) ≡ true ∷ false ∷ []
+take_unwanted = refl
+
 -- a frame isn't full while a slot is free
 pub full_free : take_shared 0 (Full 0) ≡ Some 2
 full_free = refl
 
-pub full_none : first_refused (record shared { slots = 1 }) (asked_shared ++ entry 0 (Full 0) ∷ []) ≡ None
-full_none = refl
+abbrev full_one : List Entry → Option ℕ
+full_one entries = first_refused (record shared { slots = 1 }) (asked_shared ++ entries)
+
+pub full_own : full_one (entry 0 (Full 0) ∷ []) ≡ None
+full_own = refl
+
+pub full_other : full_one (entry 1 (Full 0) ∷ []) ≡ Some 2
+full_other = refl
 
 -- after a Stop nothing is taken, and nobody is told of a full pool
-pub take_stopped : first_refused shared (asked_shared ++ entry 0 Stop ∷ entry 0 (Take (Some 0) 1 None) ∷ []) ≡ Some 3
+pub take_stopped : map (λ frame. first_refused shared (asked_shared ++ entry 0 Stop ∷ entry 0 (Take frame 1 None) ∷ [])) (None ∷ Some 0 ∷ []) ≡ Some 3 ∷ Some 3 ∷ []
 take_stopped = refl
 
-pub full_stopped : first_refused (record shared { slots = 1 }) (asked_shared ++ entry 0 Stop ∷ entry 0 (Full 0) ∷ []) ≡ Some 3
+pub full_stopped : full_one (entry 0 Stop ∷ entry 0 (Full 0) ∷ []) ≡ Some 3
 full_stopped = refl
 
 -- but what is being loaded may come
@@ -141,10 +168,10 @@ abbrev ends : ℕ → What → Option ℕ
 ends by what = first_refused flat (loading_1 ++ entry by what ∷ [])
 
 -- a load is ended by its maker
-pub ends_own : ends 2 (Starve 1) ≡ None
+pub ends_own : map (ends 2) (Install 1 digest ∷ other_ends) ≡ replicate 4 None
 ends_own = refl
 
-pub ends_other : ends 0 (Starve 1) ≡ Some 5
+pub ends_other : map (ends 0) (Install 1 digest ∷ other_ends) ≡ replicate 4 (Some 5)
 ends_other = refl
 
 -- and is of the page that is being loaded

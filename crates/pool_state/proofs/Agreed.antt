@@ -1,7 +1,6 @@
 -- What is kept by index stays in agreement with the live frames as entries change them.
 use Rattle.std.proofs.Common.{◌≡◌, ◌≢◌, ℕ, zero, suc, ◌+◌, ◌==◌, ◌<◌, ◌≤◌, List, [], ◌∷◌, Bool, true, false, not, cond, ◌&&◌, ◌||◌, ◌⊎◌, inl, inr, ⊎_elim, Option, Some, None, nat_cmp, nat_eq, length, get_or, set, replicate, map, filter, fold, refl, sym, ap, ◌∙◌, subst, arith, length-set, get_or-set_same, get_or-set_other}
 use Rattle.std.specs.BTreeMap.{get, is_at, values}
-use Rattle.std.specs.BTreeSet as tree
 use Rattle.std.specs.List.{list_any, list_all}
 use Rattle.std.specs.Option.{IsSome, is_some, option_map}
 use Rattle.std.specs.Result.{OnErr, OnOk, is_err}
@@ -28,6 +27,7 @@ use Rattle.pool_state.proofs.Renewed.{values-same}
 use Rattle.pool_state.proofs.Numbered.{frame_at-put, frame_at-others, frame_at-map, AreApart-put, AreApart-others, AreApart-map, found-number, any-found}
 use Rattle.pool_rules.proofs.Pinned.{marked-listed}
 use Rattle.pool_rules.proofs.Tests.{same-eqb, and-both, or-cases, all-at_any}
+use Rattle.pool_state.specs.Pages.{has_page}
 pub use Rattle.pool_rules.proofs.Tests.{same-bools}
 
 or-false : (a b : Bool) → a ≡ false → b ≡ false → (a || b) ≡ false
@@ -85,7 +85,7 @@ named-put key n w hold h =
     elim (is_at (nat_cmp key) n) as (λ b. cond b (Some w) h ≡ Some hold → (hold ≡ w) ⊎ (h ≡ Some hold)) [ true ↦ λ e. inl cc | false ↦ λ e. inr e ]
 
 pub Agrees-put : (k k' : ℕ) (frames : List Frame) (x y : Standing) (f : Frame) (w : Hold) → Agrees k frames x → y.places ≡ x.places → y.since ≡ x.since → ((n : ℕ) → get nat_cmp y.frames.holds n ≡ cond (is_at (nat_cmp f.number) n) (Some w) (get nat_cmp x.frames.holds n)) → IsIndexed y.frames → length y.frames.counts.items ≡ length x.frames.counts.items →
-    IsHold x.places.resident.items x.since.items f w → ((page : ℕ) → tree.contains nat_cmp w.pages page ≡ true → get_or x.places.resident.items page false ≡ true) → ((m : ℕ) → IsSome (get nat_cmp y.frames.moments m) → m < k') → k ≤ k' → IsQueued k' y.wants → IsOwned y.frames.holds y.wants → Agrees k' (put f frames) y
+    IsHold x.places.resident.items x.since.items f w → ((page : ℕ) → has_page w.pages page ≡ true → get_or x.places.resident.items page false ≡ true) → ((m : ℕ) → IsSome (get nat_cmp y.frames.moments m) → m < k') → k ≤ k' → IsQueued k' y.wants → IsOwned y.frames.holds y.wants → Agrees k' (put f frames) y
 Agrees-put k k' frames x y f w agrees places since at indexed len is named earlier le queued owned = record {
   queued = queued;
   owned = owned;
@@ -176,7 +176,7 @@ hold-evicted resident since v (Some f) (Some hold) none was = record {
       let unpinned : get_or f.pins page false ≡ false = rw at (none f refl) in
       let unheld : pins_of resident since hold page ≡ false = sym (was.pins page) ∙ unpinned in
       let resident' = set resident v false in
-      unpinned ∙ sym (or-false (tree.contains nat_cmp hold.pages page) (get_or resident' page false && covers hold.moment (get_or since page 0)) (first-false (tree.contains nat_cmp hold.pages page) (get_or resident page false && covers hold.moment (get_or since page 0)) unheld) (none-and (get_or resident' page false) (covers hold.moment (get_or since page 0)) gone)))
+      unpinned ∙ sym (or-false (has_page hold.pages page) (get_or resident' page false && covers hold.moment (get_or since page 0)) (first-false (has_page hold.pages page) (get_or resident page false && covers hold.moment (get_or since page 0)) unheld) (none-and (get_or resident' page false) (covers hold.moment (get_or since page 0)) gone)))
       (get_or-set_cases resident v page false false);
 }
   where
@@ -212,7 +212,7 @@ Agrees-evicted k k' frames x y v agrees loose resident counted since same wants 
     none : (n : ℕ) (f : Frame) → frame_at n frames ≡ Some f → get_or f.pins v false ≡ false
     none n f at = not-true (get_or f.pins v false) (λ pins. let yes : is_pinned (shown x frames) v ≡ true = any-found (λ f. get_or f.pins v false) n frames f at pins in cc)
 
-    held : (n : ℕ) (hold : Hold) (page : ℕ) → page ≡ v → get nat_cmp x.frames.holds n ≡ Some hold → tree.contains nat_cmp hold.pages page ≡ true → ⊥
+    held : (n : ℕ) (hold : Hold) (page : ℕ) → page ≡ v → get nat_cmp x.frames.holds n ≡ Some hold → has_page hold.pages page ≡ true → ⊥
     held n hold page at old has =
         let yes : is_pinned (shown x frames) v ≡ true = rw at at (pinned-named k frames x n page hold agrees old has) in cc
 
@@ -225,26 +225,26 @@ and-true : (a : Bool) → (a && true) ≡ a
 and-true true = refl
 and-true false = refl
 
-pub IsHold-pinned : (k : ℕ) (resident : List Bool) (since : List ℕ) (frame by : ℕ) (w : Hold) → ((page : ℕ) → get_or since page 0 ≤ k) → w.owner ≡ by → w.moment ≡ Some k → ((page : ℕ) → tree.contains nat_cmp w.pages page ≡ true → get_or resident page false ≡ true) → IsHold resident since (record { number = frame; owner = by; pins = resident }) w
+pub IsHold-pinned : (k : ℕ) (resident : List Bool) (since : List ℕ) (frame by : ℕ) (w : Hold) → ((page : ℕ) → get_or since page 0 ≤ k) → w.owner ≡ by → w.moment ≡ Some k → ((page : ℕ) → has_page w.pages page ≡ true → get_or resident page false ≡ true) → IsHold resident since (record { number = frame; owner = by; pins = resident }) w
 IsHold-pinned k resident since frame by w came owner moment named = record {
   owner = sym owner;
   pin_a_page = refl;
   pins = λ page.
       let all : covers w.moment (get_or since page 0) ≡ true = ap (λ m. covers m (get_or since page 0)) moment ∙ covers-now k (get_or since page 0) (came page) in
-      rw all (either (tree.contains nat_cmp w.pages page) (get_or resident page false) (named page));
+      rw all (either (has_page w.pages page) (get_or resident page false) (named page));
 }
   where
     either : (a b : Bool) → (a ≡ true → b ≡ true) → b ≡ (a || (b && true))
     either true b h = h refl
     either false b h = sym (and-true b)
 
-pub IsHold-named : (resident : List Bool) (since : List ℕ) (frame by : ℕ) (pages : List ℕ) (w : Hold) → list_all (λ q. get_or resident q false) pages ≡ true → w.owner ≡ by → w.moment ≡ None → ((page : ℕ) → tree.contains nat_cmp w.pages page ≡ list_any (nat_eq page) pages) → IsHold resident since (record { number = frame; owner = by; pins = marked (length resident) pages }) w
+pub IsHold-named : (resident : List Bool) (since : List ℕ) (frame by : ℕ) (pages : List ℕ) (w : Hold) → list_all (λ q. get_or resident q false) pages ≡ true → w.owner ≡ by → w.moment ≡ None → ((page : ℕ) → has_page w.pages page ≡ list_any (nat_eq page) pages) → IsHold resident since (record { number = frame; owner = by; pins = marked (length resident) pages }) w
 IsHold-named resident since frame by pages w all owner moment named = record {
   owner = sym owner;
   pin_a_page = length-marked (length resident) pages;
   pins = λ page.
       let never : covers w.moment (get_or since page 0) ≡ false = ap (λ m. covers m (get_or since page 0)) moment in
-      marked-resident resident pages page all ∙ (sym (named page) ∙ rw never (sym (or-alone (tree.contains nat_cmp w.pages page) (get_or resident page false))));
+      marked-resident resident pages page all ∙ (sym (named page) ∙ rw never (sym (or-alone (has_page w.pages page) (get_or resident page false))));
 }
   where
     or-alone : (a b : Bool) → (a || (b && false)) ≡ a
@@ -277,9 +277,9 @@ pub later : (k : ℕ) (frames : List Frame) (x : Standing) (m : ℕ) → Agrees 
 later k frames x m agrees (inl own) = cc
 later k frames x m agrees (inr old) = omega (arith, agrees.earlier m old)
 
-pub named-none : (w : Hold) (resident : List Bool) → w.pages.keys ≡ [] → (page : ℕ) → tree.contains nat_cmp w.pages page ≡ true → get_or resident page false ≡ true
+pub named-none : (w : Hold) (resident : List Bool) → w.pages ≡ [] → (page : ℕ) → has_page w.pages page ≡ true → get_or resident page false ≡ true
 named-none w resident none page has =
-    let no : tree.contains nat_cmp w.pages page ≡ false = ap (λ keys. list_any (is_at (nat_cmp page)) keys) none in cc
+    let no : has_page w.pages page ≡ false = ap (λ pages. has_page pages page) none in cc
 
 -- ---- after an error, and before any entry
 
@@ -330,7 +330,7 @@ name_at-len named (page ∷ pages) place = name_at-len (set named page place) pa
 abbrev pub shows-with : Standing → List Frame → Frame → List ℕ → State
 shows-with x frames f named = record {
   resident = x.places.resident.items;
-  loading = x.places.loading.items;
+  loading = x.places.loading;
   frames = put f frames;
   wants = values x.wants.queue;
   named = named;
@@ -377,15 +377,15 @@ record IsInstalled (resident : List Bool) (since : List ℕ) (k page : ℕ) (hol
   absent : get_or resident page false ≡ false
   below : page < length resident
   came : page < length since
-  named : (p : ℕ) → tree.contains nat_cmp hold.pages p ≡ true → get_or resident p false ≡ true
+  named : (p : ℕ) → has_page hold.pages p ≡ true → get_or resident p false ≡ true
   earlier : (m : ℕ) → hold.moment ≡ Some m → m < k
 
-not-named : (resident : List Bool) (since : List ℕ) (k page : ℕ) (hold : Hold) → IsInstalled resident since k page hold → tree.contains nat_cmp hold.pages page ≡ false
+not-named : (resident : List Bool) (since : List ℕ) (k page : ℕ) (hold : Hold) → IsInstalled resident since k page hold → has_page hold.pages page ≡ false
 not-named resident since k page hold is =
-    elim (tree.contains nat_cmp hold.pages page) as (λ b. tree.contains nat_cmp hold.pages page ≡ b → b ≡ false) [ true ↦ λ has. let here = is.named page has in let no = is.absent in cc | false ↦ λ none. refl ] refl
+    elim (has_page hold.pages page) as (λ b. has_page hold.pages page ≡ b → b ≡ false) [ true ↦ λ has. let here = is.named page has in let no = is.absent in cc | false ↦ λ none. refl ] refl
 
 -- at any other page all is as it was
-pins-other : (resident : List Bool) (since : List ℕ) (k page p : ℕ) (old new : Hold) → nat_eq page p ≡ false → new.moment ≡ old.moment → tree.contains nat_cmp new.pages p ≡ tree.contains nat_cmp old.pages p → pins_of resident since old p ≡ pins_of (set resident page true) (set since page (k + 1)) new p
+pins-other : (resident : List Bool) (since : List ℕ) (k page p : ℕ) (old new : Hold) → nat_eq page p ≡ false → new.moment ≡ old.moment → has_page new.pages p ≡ has_page old.pages p → pins_of resident since old p ≡ pins_of (set resident page true) (set since page (k + 1)) new p
 pins-other resident since k page p old new apart moment named =
     let there : get_or (set resident page true) p false ≡ get_or resident p false = get_or-set_other resident page p true false (other-page page p apart) in
     let then : get_or (set since page (k + 1)) p 0 ≡ get_or since p 0 = get_or-set_other since page p (k + 1) 0 (other-page page p apart) in
@@ -395,7 +395,7 @@ hold-waiting : (resident : List Bool) (since : List ℕ) (k page : ℕ) (f : Fra
 hold-waiting resident since k page f old new is was names = record {
   owner = was.owner ∙ sym names.0;
   pin_a_page = length-set f.pins page true ∙ (was.pin_a_page ∙ sym (length-set resident page true));
-  pins = λ p. elim (nat_eq page p) as (λ b. nat_eq page p ≡ b → tree.contains nat_cmp new.pages p ≡ cond b true (tree.contains nat_cmp old.pages p) → get_or (set f.pins page true) p false ≡ pins_of (set resident page true) (set since page (k + 1)) new p) [
+  pins = λ p. elim (nat_eq page p) as (λ b. nat_eq page p ≡ b → has_page new.pages p ≡ cond b true (has_page old.pages p) → get_or (set f.pins page true) p false ≡ pins_of (set resident page true) (set since page (k + 1)) new p) [
     | true ↦ λ here has.
         let same : page ≡ p = same-eqb page p here in
         let marked : get_or (set f.pins page true) p false ≡ true = rw (← same) (get_or-set_same f.pins page true false (omega (arith, is.below, was.pin_a_page))) in
@@ -413,10 +413,10 @@ hold-other resident since k page f old new is was names = record {
         let same : page ≡ p = same-eqb page p here in
         let unnamed = not-named resident since k page old is in
         let before : get_or f.pins page false ≡ false = was.pins page ∙ rw (unnamed, is.absent) refl in
-        let after : tree.contains nat_cmp new.pages page ≡ false = names.2 page ∙ unnamed in
+        let after : has_page new.pages page ≡ false = names.2 page ∙ unnamed in
         let then : get_or (set since page (k + 1)) page 0 ≡ k + 1 = get_or-set_same since page (k + 1) 0 is.came in
         let uncovered : covers new.moment (k + 1) ≡ false = covers-later new.moment k (λ m at. is.earlier m (sym names.1 ∙ at)) in
-        rw (← same) (before ∙ sym (or-false (tree.contains nat_cmp new.pages page) (get_or (set resident page true) page false && covers new.moment (get_or (set since page (k + 1)) page 0)) after (rw then (and-other (get_or (set resident page true) page false) (covers new.moment (k + 1)) uncovered))))
+        rw (← same) (before ∙ sym (or-false (has_page new.pages page) (get_or (set resident page true) page false && covers new.moment (get_or (set since page (k + 1)) page 0)) after (rw then (and-other (get_or (set resident page true) page false) (covers new.moment (k + 1)) uncovered))))
     | false ↦ λ no. was.pins p ∙ pins-other resident since k page p old new no names.1 (names.2 p)
   ] refl;
 }
@@ -441,14 +441,14 @@ installed-number : (wants : List Want) (page : ℕ) (f : Frame) → (with_instal
 installed-number wants page f =
     elim (waits_for wants f.number page) as (λ b. (cond b (record f { pins = set f.pins page true }) f).number ≡ f.number) [ true ↦ refl | false ↦ refl ]
 
-named-after : (old new : Option Hold) (waits : Bool) (page p : ℕ) (hold : Hold) → new ≡ Some hold → NamesAt old new waits page true → tree.contains nat_cmp hold.pages p ≡ true → (page ≡ p) ⊎ ((was : Hold) × (old ≡ Some was) × (tree.contains nat_cmp was.pages p ≡ true))
+named-after : (old new : Option Hold) (waits : Bool) (page p : ℕ) (hold : Hold) → new ≡ Some hold → NamesAt old new waits page true → has_page hold.pages p ≡ true → (page ≡ p) ⊎ ((was : Hold) × (old ≡ Some was) × (has_page was.pages p ≡ true))
 named-after old None waits page p hold at names has = cc
 named-after None (Some new) waits page p hold at names has = absurd names
 named-after (Some old) (Some new) waits page p hold at names has =
     let same : new ≡ hold = cc in
-    by_test (waits && nat_eq page p) refl (sym (names.2 p) ∙ (ap (λ h. tree.contains nat_cmp h.pages p) same ∙ has))
+    by_test (waits && nat_eq page p) refl (sym (names.2 p) ∙ (ap (λ h. has_page h.pages p) same ∙ has))
   where
-    by_test : (b : Bool) → (waits && nat_eq page p) ≡ b → cond b true (tree.contains nat_cmp old.pages p) ≡ true → (page ≡ p) ⊎ ((was : Hold) × (Some old ≡ Some was) × (tree.contains nat_cmp was.pages p ≡ true))
+    by_test : (b : Bool) → (waits && nat_eq page p) ≡ b → cond b true (has_page old.pages p) ≡ true → (page ≡ p) ⊎ ((was : Hold) × (Some old ≡ Some was) × (has_page was.pages p ≡ true))
     by_test true e h = inl (same-eqb page p (and-both waits (nat_eq page p) e).1)
     by_test false e h = inr (old, refl, h)
 
@@ -484,15 +484,15 @@ Agrees-installed k frames x y page agrees absent below resident counted since na
       earlier = λ m is. agrees.earlier m (ap is_some (agrees.indexed.listed n m (ap moment_in at ∙ is)));
     }
 
-unnamed-at : (page p : ℕ) (waits : Bool) (old new : Hold) → tree.contains nat_cmp old.pages page ≡ false → tree.contains nat_cmp new.pages p ≡ cond (waits && nat_eq page p) false (tree.contains nat_cmp old.pages p) → tree.contains nat_cmp new.pages p ≡ tree.contains nat_cmp old.pages p
+unnamed-at : (page p : ℕ) (waits : Bool) (old new : Hold) → has_page old.pages page ≡ false → has_page new.pages p ≡ cond (waits && nat_eq page p) false (has_page old.pages p) → has_page new.pages p ≡ has_page old.pages p
 unnamed-at page p waits old new none is =
-    is ∙ elim (waits && nat_eq page p) as (λ b. (waits && nat_eq page p) ≡ b → cond b false (tree.contains nat_cmp old.pages p) ≡ tree.contains nat_cmp old.pages p) [
+    is ∙ elim (waits && nat_eq page p) as (λ b. (waits && nat_eq page p) ≡ b → cond b false (has_page old.pages p) ≡ has_page old.pages p) [
       | true ↦ λ e. let same : page ≡ p = same-eqb page p (and-both waits (nat_eq page p) e).1 in sym (rw same at none)
       | false ↦ λ e. refl
     ] refl
 
 -- the frames that wait were made not to pin a page that no frame pins
-unnamed-same : (resident : List Bool) (since : List ℕ) (page : ℕ) (waits : Bool) (o : Option Frame) (old new : Option Hold) → ((hold : Hold) → old ≡ Some hold → tree.contains nat_cmp hold.pages page ≡ false) → AreHold resident since o old → NamesAt old new waits page false → AreHold resident since o new
+unnamed-same : (resident : List Bool) (since : List ℕ) (page : ℕ) (waits : Bool) (o : Option Frame) (old new : Option Hold) → ((hold : Hold) → old ≡ Some hold → has_page hold.pages page ≡ false) → AreHold resident since o old → NamesAt old new waits page false → AreHold resident since o new
 unnamed-same resident since page waits None None None none was names = tt
 unnamed-same resident since page waits None None (Some new) none was names = names
 unnamed-same resident since page waits None (Some old) new none was names = absurd was
@@ -522,15 +522,15 @@ Agrees-unnamed k frames x y page agrees absent places since names moments indexe
   count_a_page = rw places (len ∙ agrees.count_a_page);
 }
   where
-    none : (n : ℕ) (hold : Hold) → get nat_cmp x.frames.holds n ≡ Some hold → tree.contains nat_cmp hold.pages page ≡ false
-    none n hold at = elim (tree.contains nat_cmp hold.pages page) as (λ b. tree.contains nat_cmp hold.pages page ≡ b → b ≡ false) [ true ↦ λ has. let here = agrees.named n hold page at has in cc | false ↦ λ no. refl ] refl
+    none : (n : ℕ) (hold : Hold) → get nat_cmp x.frames.holds n ≡ Some hold → has_page hold.pages page ≡ false
+    none n hold at = elim (has_page hold.pages page) as (λ b. has_page hold.pages page ≡ b → b ≡ false) [ true ↦ λ has. let here = agrees.named n hold page at has in cc | false ↦ λ no. refl ] refl
 
-    named : (n : ℕ) (old new : Option Hold) (hold : Hold) (p : ℕ) → get nat_cmp x.frames.holds n ≡ old → new ≡ Some hold → NamesAt old new (waits_for (values x.wants.queue) n page) page false → tree.contains nat_cmp hold.pages p ≡ true → get_or x.places.resident.items p false ≡ true
+    named : (n : ℕ) (old new : Option Hold) (hold : Hold) (p : ℕ) → get nat_cmp x.frames.holds n ≡ old → new ≡ Some hold → NamesAt old new (waits_for (values x.wants.queue) n page) page false → has_page hold.pages p ≡ true → get_or x.places.resident.items p false ≡ true
     named n old None hold p is at names has = cc
     named n None (Some new) hold p is at names has = absurd names
     named n (Some old) (Some new) hold p is at names has =
         let same : new ≡ hold = cc in
-        agrees.named n old p is (sym (unnamed-at page p (waits_for (values x.wants.queue) n page) old new (none n old is) (names.2 p)) ∙ (ap (λ h. tree.contains nat_cmp h.pages p) same ∙ has))
+        agrees.named n old p is (sym (unnamed-at page p (waits_for (values x.wants.queue) n page) old new (none n old is) (names.2 p)) ∙ (ap (λ h. has_page h.pages p) same ∙ has))
 
 pub from_ok : {T E : Type 0} (r : Result T E) (P : Type 0) → is_err r ≡ false → OnOk r P → P
 from_ok (Ok v) P e h = h

@@ -14,19 +14,18 @@ use Rattle.pool_state.specs.Holding.{recounted, named_by, named_count, moment_of
 use Rattle.pool_state.specs.Moved.{since_after, still_names}
 use Rattle.pool_state.specs.Naming.{names}
 use Rattle.pool_state.specs.Queue.{is_among, is_one_of, is_paged, pages_queued, pair_cmp, stays, tickets_at, waits_at, want_at}
-use Rattle.pool_state.specs.Row.{ends_from, rows_of}
+use Rattle.pool_state.specs.declared.rows.Row.{Row}
+use Rattle.pool_state.specs.declared.rows.Row.TheVariants.{Nothing, One, Two, Many}
+use Rattle.pool_state.specs.Row.{list_of}
 use Rattle.pool_state.specs.Shown.{shown}
 
--- Rows: the lists of the uppers of six pages, of which page 2 stands on two.
-abbrev uppers : List (List ℕ)
-uppers = [] ∷ (0 ∷ []) ∷ (0 ∷ 1 ∷ []) ∷ (0 ∷ []) ∷ (0 ∷ []) ∷ (0 ∷ []) ∷ []
+-- Rows: the uppers of five pages, of which the last two stand on four pages each.
+abbrev rows : List Row
+rows = Nothing ∷ One (0 ∷ []) ∷ Two (0 ∷ 1 ∷ []) ∷ Many 4 0 ∷ Many 4 4 ∷ []
 
--- in one list those of page 2 stand behind those of page 1
-pub rows_of_uppers : rows_of (0 ∷ 1 ∷ 3 ∷ 4 ∷ 5 ∷ 6 ∷ []) (0 ∷ 0 ∷ 1 ∷ 0 ∷ 0 ∷ 0 ∷ []) ≡ uppers
-rows_of_uppers = refl
-
-pub ends_from_uppers : ends_from 0 uppers ≡ 0 ∷ 1 ∷ 3 ∷ 4 ∷ 5 ∷ 6 ∷ []
-ends_from_uppers = refl
+-- those of the last page stand behind those of the page before it
+pub list_of_uppers : map (list_of (0 ∷ 1 ∷ 2 ∷ 3 ∷ 5 ∷ 6 ∷ 7 ∷ 8 ∷ [])) rows ≡ [] ∷ (0 ∷ []) ∷ (0 ∷ 1 ∷ []) ∷ (0 ∷ 1 ∷ 2 ∷ 3 ∷ []) ∷ (5 ∷ 6 ∷ 7 ∷ 8 ∷ []) ∷ []
+list_of_uppers = refl
 
 -- A count changes where an item begins or ceases to pass.
 pub recounted_gone : recounted 5 true false ≡ 4
@@ -44,7 +43,7 @@ recounted_greatest = refl
 
 -- Names: frame 0 pins the pages 1 and 3 by name, and frame 2 page 3, and all that was there at count 7.
 abbrev hold : Option ℕ → List ℕ → Hold
-hold moment pages = record { owner = 0; moment = moment; pages = record { keys = pages } }
+hold moment pages = record { owner = 0; moment = moment; pages = pages }
 
 abbrev two_frames : List (ℕ × Hold)
 two_frames = (0, hold None (1 ∷ 3 ∷ [])) ∷ (2, hold (Some 7) (3 ∷ [])) ∷ []
@@ -135,7 +134,10 @@ still_unpinned holds = refl
 pub still_others : (holds : BTreeMap ℕ Hold) → holds.entries ≡ two_frames → map (λ what. still_names what holds 2 3) (Settle 0 [] [] ∷ Narrow 0 [] ∷ Unpin 0 ∷ []) ≡ true ∷ true ∷ true ∷ []
 still_others holds h = rw h refl
 
--- a Pin of frame 0 leaves them too
+pub still_other_names : (holds : BTreeMap ℕ Hold) → holds.entries ≡ two_frames → map (still_names (Unpin 0) holds 2) (1 ∷ 2 ∷ 3 ∷ []) ≡ false ∷ false ∷ true ∷ []
+still_other_names holds h = rw h refl
+
+-- a Pin of frame 0 leaves its own too
 pub still_pinned : (holds : BTreeMap ℕ Hold) → holds.entries ≡ two_frames → map (still_names (Pin 0) holds 0) (1 ∷ 2 ∷ 3 ∷ []) ≡ true ∷ false ∷ true ∷ []
 still_pinned holds h = rw h refl
 

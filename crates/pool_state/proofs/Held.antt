@@ -1,7 +1,6 @@
 -- What the live frames pin, by what is kept of them.
 use Rattle.std.proofs.Common.{◌≡◌, ℕ, ◌==◌, ◌<◌, ◌≤◌, List, Bool, true, false, ◌&&◌, ⊎_elim, Option, Some, None, nat_cmp, length, get_or, refl, sym, ap, ◌∙◌, arith}
 use Rattle.std.specs.BTreeMap.{get}
-use Rattle.std.specs.BTreeSet as set
 use Rattle.std.specs.Option.{IsSome, is_some}
 use Rattle.std.proofs.lemmas.Bool.Decides.{nat_tests}
 use Rattle.pool_state.specs.Agreement.{Agrees}
@@ -16,6 +15,7 @@ use Rattle.pool_rules.specs.Victim.{is_pinned}
 use Rattle.pool_rules.proofs.Flags.{place-within}
 use Rattle.pool_state.proofs.Numbered.{passes, any-numbered, has_number-found, any-found, found-any}
 use Rattle.pool_rules.proofs.Tests.{or-cases, or-left, or-right, and-both}
+use Rattle.pool_state.specs.Pages.{has_page}
 
 hold-passes : (resident : List Bool) (since : List ℕ) (test : Frame → Bool) (b : Bool) (o : Option Frame) (hold : Hold) → AreHold resident since o (Some hold) → ((f : Frame) → IsHold resident since f hold → test f ≡ b) → passes test o ≡ b
 hold-passes resident since test b None hold h same = absurd h
@@ -69,9 +69,9 @@ pinned-held entries frames x n page hold agrees at pins =
     let frame = of-frame x.places.resident.items x.since.items (frame_at n frames) hold (at-hold entries frames x n (Some hold) agrees at) in
     any-found (λ f. get_or f.pins page false) n frames frame.0 frame.1 (frame.2.pins page ∙ pins)
 
-pub pinned-named : (entries : ℕ) (frames : List Frame) (x : Standing) (n page : ℕ) (hold : Hold) → Agrees entries frames x → get nat_cmp x.frames.holds n ≡ Some hold → set.contains nat_cmp hold.pages page ≡ true → is_pinned (shown x frames) page ≡ true
+pub pinned-named : (entries : ℕ) (frames : List Frame) (x : Standing) (n page : ℕ) (hold : Hold) → Agrees entries frames x → get nat_cmp x.frames.holds n ≡ Some hold → has_page hold.pages page ≡ true → is_pinned (shown x frames) page ≡ true
 pinned-named entries frames x n page hold agrees at named =
-    pinned-held entries frames x n page hold agrees at (or-left (set.contains nat_cmp hold.pages page) _ named)
+    pinned-held entries frames x n page hold agrees at (or-left (has_page hold.pages page) _ named)
 
 pub of-live : (o : Option Hold) → is_some o ≡ true → (hold : Hold) × (o ≡ Some hold)
 of-live None live = cc
@@ -102,10 +102,10 @@ pub pinned-covered : (entries : ℕ) (frames : List Frame) (x : Standing) (page 
 pinned-covered entries frames x page m agrees some resident le =
     let listed = of-some (get nat_cmp x.frames.moments m) some in
     let hold = of-moment (get nat_cmp x.frames.holds listed.0) m (agrees.indexed.live listed.0 m listed.1) in
-    pinned-held entries frames x listed.0 page hold.0 agrees hold.1 (or-right (set.contains nat_cmp hold.0.pages page) _ (both-true (is_resident (shown x frames) page) _ resident (covers-le hold.0.moment m (get_or x.since.items page 0) hold.2 le)))
+    pinned-held entries frames x listed.0 page hold.0 agrees hold.1 (or-right (has_page hold.0.pages page) _ (both-true (is_resident (shown x frames) page) _ resident (covers-le hold.0.moment m (get_or x.since.items page 0) hold.2 le)))
 
 -- the page isn't pinned where no frame names it and it came after every moment, or isn't resident
-pub unpinned : (entries : ℕ) (frames : List Frame) (x : Standing) (page : ℕ) → Agrees entries frames x → ((n : ℕ) (hold : Hold) → get nat_cmp x.frames.holds n ≡ Some hold → set.contains nat_cmp hold.pages page ≡ false) → (is_resident (shown x frames) page ≡ true → (m : ℕ) → IsSome (get nat_cmp x.frames.moments m) → m < get_or x.since.items page 0) → is_pinned (shown x frames) page ≡ false
+pub unpinned : (entries : ℕ) (frames : List Frame) (x : Standing) (page : ℕ) → Agrees entries frames x → ((n : ℕ) (hold : Hold) → get nat_cmp x.frames.holds n ≡ Some hold → has_page hold.pages page ≡ false) → (is_resident (shown x frames) page ≡ true → (m : ℕ) → IsSome (get nat_cmp x.frames.moments m) → m < get_or x.since.items page 0) → is_pinned (shown x frames) page ≡ false
 unpinned entries frames x page agrees unnamed uncovered =
     elim (is_pinned (shown x frames) page) as (λ b. is_pinned (shown x frames) page ≡ b → b ≡ false) [
       | true ↦ λ yes. absurd (never (found-any (λ f. get_or f.pins page false) frames agrees.apart yes))
@@ -119,21 +119,21 @@ unpinned entries frames x page agrees unnamed uncovered =
         with_hold n f pins None at same = same
         with_hold n f pins (Some hold) at same =
             ⊎_elim
-            (λ named. let no : set.contains nat_cmp hold.pages page ≡ false = unnamed n hold at in cc)
+            (λ named. let no : has_page hold.pages page ≡ false = unnamed n hold at in cc)
             (λ covered.
             let parts = and-both (is_resident (shown x frames) page) (covers hold.moment (get_or x.since.items page 0)) covered in
             let moment = covers-moment hold.moment (get_or x.since.items page 0) parts.1 in
             let listed : get nat_cmp x.frames.moments moment.0 ≡ Some n = agrees.indexed.listed n moment.0 (ap moment_in at ∙ moment.1) in
             absurd (omega (arith, moment.2, uncovered parts.0 moment.0 (ap is_some listed))))
-            (or-cases (set.contains nat_cmp hold.pages page) _ (sym (same.pins page) ∙ pins))
+            (or-cases (has_page hold.pages page) _ (sym (same.pins page) ∙ pins))
 
 -- no frame names a page that isn't there
-pub unnamed-past : (entries : ℕ) (frames : List Frame) (x : Standing) (page : ℕ) → Agrees entries frames x → (page < length x.frames.counts.items → (n : ℕ) (hold : Hold) → get nat_cmp x.frames.holds n ≡ Some hold → set.contains nat_cmp hold.pages page ≡ false) → (n : ℕ) (hold : Hold) → get nat_cmp x.frames.holds n ≡ Some hold → set.contains nat_cmp hold.pages page ≡ false
+pub unnamed-past : (entries : ℕ) (frames : List Frame) (x : Standing) (page : ℕ) → Agrees entries frames x → (page < length x.frames.counts.items → (n : ℕ) (hold : Hold) → get nat_cmp x.frames.holds n ≡ Some hold → has_page hold.pages page ≡ false) → (n : ℕ) (hold : Hold) → get nat_cmp x.frames.holds n ≡ Some hold → has_page hold.pages page ≡ false
 unnamed-past entries frames x page agrees unnamed n hold at =
-    elim (set.contains nat_cmp hold.pages page) as (λ b. set.contains nat_cmp hold.pages page ≡ b → b ≡ false) [
+    elim (has_page hold.pages page) as (λ b. has_page hold.pages page ≡ b → b ≡ false) [
       | true ↦ λ has.
           let here = place-within (λ (b : Bool). b) x.places.resident.items page false refl (agrees.named n hold page at has) in
-          let no : set.contains nat_cmp hold.pages page ≡ false = unnamed (omega (arith, here, agrees.count_a_page)) n hold at in
+          let no : has_page hold.pages page ≡ false = unnamed (omega (arith, here, agrees.count_a_page)) n hold at in
           cc
       | false ↦ λ none. refl
     ] refl

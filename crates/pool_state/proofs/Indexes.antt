@@ -1,7 +1,6 @@
 -- The indexes of what frames hold, after one of the frames changed, began or ended.
 use Rattle.std.proofs.Common.{◌≡◌, ◌⊎◌, inl, inr, ⊎_elim, ℕ, ◌+◌, ◌<◌, ◌==◌, true, false, cond, List, nat_eq, nat_cmp, Option, Some, None, length, slice_index_or, refl, sym, ap, ◌∙◌, arith}
 use Rattle.std.specs.BTreeMap.{BTreeMap, get, is_at, IsOrdered, WritesThrough, insert_entry}
-use Rattle.std.specs.BTreeSet.{BTreeSet, contains}
 use Rattle.std.specs.Map.{remove_entry}
 use Rattle.std.specs.Option.{IsSome}
 use Rattle.pool_state.specs.declared.frames.Frames.{Frames}
@@ -10,6 +9,7 @@ use Rattle.pool_state.specs.Holding.{IsIndexed, named_by, named_count, one, mome
 use Rattle.pool_state.proofs.Counts.{has, is_at-eqb, named_count-written, named_count-inserted, named_count-removed}
 use Rattle.std.proofs.lemmas.Bool.Decides.{Decides-eqb}
 use Rattle.pool_rules.proofs.Tests.{same-eqb}
+use Rattle.pool_state.specs.Pages.{has_page}
 
 is-some : {X : Type 0} (o : Option X) (x : X) → o ≡ Some x → IsSome o
 is-some None x e = cc
@@ -119,7 +119,7 @@ IsIndexed-again old new frame v w between indexed at written same fresh listing 
     IsIndexed-relisted old new frame w between indexed written.4 updates.0 fresh listing (λ m. unlisting m ∙ ap (λ (hold : Option Hold). unlisted between (moment_in hold) m) (sym at))
     (λ page below.
     let was = indexed.counted page (rw counts at below) in
-    let both : has page w ≡ has page v = ap (λ (pages : BTreeSet ℕ). one (contains nat_cmp pages page)) same in
+    let both : has page w ≡ has page v = ap (λ (pages : List ℕ). one (has_page pages page)) same in
     rw counts (omega (arith, was, both, named_count-written page frame old.holds new.holds v w at written.0)))
 
 -- a frame ended, and its moment is listed no more

@@ -3,11 +3,12 @@ pub mod Counts
 pub mod Examples
 pub mod Held
 pub mod Indexes
-pub mod Laid
 pub mod Named
 pub mod Numbered
 pub mod Ordered
+pub mod Paged
 pub mod Queued
 pub mod Renewed
+pub mod Rowed
 pub mod Tickets
 pub mod Waiting

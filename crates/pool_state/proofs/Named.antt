@@ -13,7 +13,7 @@ use Rattle.pool_rules.specs.Victim.{is_pinned}
 use Rattle.pool_state.proofs.Counts.{is_at-eqb}
 use Rattle.pool_state.proofs.Held.{pinned-named, unpinned}
 use Rattle.pool_rules.proofs.Tests.{same-eqb}
-use Rattle.std.specs.BTreeSet as tree
+use Rattle.pool_state.specs.Pages.{has_page}
 
 pub not-so : (b : Bool) → (b ≡ true → ⊥) → b ≡ false
 not-so true never = absurd (never refl)
@@ -23,11 +23,11 @@ pub never-both : (b : Bool) → b ≡ true → b ≡ false → ⊥
 never-both true h k = cc
 never-both false h k = cc
 
-pub of-names : (page : ℕ) (o : Option Hold) → is_named_in page o ≡ true → (hold : Hold) × (o ≡ Some hold) × (tree.contains nat_cmp hold.pages page ≡ true)
+pub of-names : (page : ℕ) (o : Option Hold) → is_named_in page o ≡ true → (hold : Hold) × (o ≡ Some hold) × (has_page hold.pages page ≡ true)
 of-names page None h = cc
 of-names page (Some hold) h = (hold, refl, h)
 
-pub names-hold : (holds : BTreeMap ℕ Hold) (n page : ℕ) (hold : Hold) → get nat_cmp holds n ≡ Some hold → names holds n page ≡ tree.contains nat_cmp hold.pages page
+pub names-hold : (holds : BTreeMap ℕ Hold) (n page : ℕ) (hold : Hold) → get nat_cmp holds n ≡ Some hold → names holds n page ≡ has_page hold.pages page
 names-hold holds n page hold at = ap (is_named_in page) at
 
 -- a frame that looks again pins by name what it did
@@ -37,7 +37,7 @@ names-again frame n page old new v w at same now h =
       | true ↦ λ own k.
           let is : frame ≡ n = same-eqb frame n (sym (is_at-eqb frame n) ∙ own) in
           let was : get nat_cmp old n ≡ Some v = ap (get nat_cmp old) (sym is) ∙ at in
-          ap (is_named_in page) k ∙ (ap (λ pages. tree.contains nat_cmp pages page) same ∙ (sym (ap (is_named_in page) was) ∙ h))
+          ap (is_named_in page) k ∙ (ap (λ pages. has_page pages page) same ∙ (sym (ap (is_named_in page) was) ∙ h))
       | false ↦ λ other k. ap (is_named_in page) k ∙ h
     ] refl now
 
@@ -50,7 +50,7 @@ pub unpinned-unnamed : (entries : ℕ) (frames : List Frame) (x : Standing) (pag
 unpinned-unnamed entries frames x page agrees loose = λ n.
     not-so (names x.frames.holds n page) (λ h. never-both (is_pinned (shown x frames) page) (named-pinned entries frames x n page agrees h) loose)
 
-pub unnamed-of : (holds : BTreeMap ℕ Hold) (page : ℕ) → ((n : ℕ) (hold : Hold) → get nat_cmp holds n ≡ Some hold → tree.contains nat_cmp hold.pages page ≡ false) → IsUnnamed (names holds) page
+pub unnamed-of : (holds : BTreeMap ℕ Hold) (page : ℕ) → ((n : ℕ) (hold : Hold) → get nat_cmp holds n ≡ Some hold → has_page hold.pages page ≡ false) → IsUnnamed (names holds) page
 unnamed-of holds page none = λ n. of n (get nat_cmp holds n) refl
   where
     of : (n : ℕ) (o : Option Hold) → get nat_cmp holds n ≡ o → is_named_in page o ≡ false
@@ -58,7 +58,7 @@ unnamed-of holds page none = λ n. of n (get nat_cmp holds n) refl
     of n (Some hold) at = none n hold at
 
 -- a page that some frame names
-pub named-not : (holds : BTreeMap ℕ Hold) (page : ℕ) → ((n : ℕ) × (hold : Hold) × (get nat_cmp holds n ≡ Some hold) × (tree.contains nat_cmp hold.pages page ≡ true)) → IsUnnamed (names holds) page → ⊥
+pub named-not : (holds : BTreeMap ℕ Hold) (page : ℕ) → ((n : ℕ) × (hold : Hold) × (get nat_cmp holds n ≡ Some hold) × (has_page hold.pages page ≡ true)) → IsUnnamed (names holds) page → ⊥
 named-not holds page (n, hold, at, has) none =
     never-both (names holds n page) (names-hold holds n page hold at ∙ has) (none n)
 
@@ -68,7 +68,7 @@ unnamed-unpinned entries frames x page agrees none uncovered =
     unpinned entries frames x page agrees (λ n hold at. sym (names-hold x.frames.holds n page hold at) ∙ none n) (λ here. uncovered)
 
 -- what a frame holds anew names its pages, and what the others hold is the same
-pub still-put : (own frame page : ℕ) (pages : List ℕ) (w : Hold) (old new : Option Hold) → new ≡ cond (is_at (nat_cmp own) frame) (Some w) old → tree.contains nat_cmp w.pages page ≡ list_any (nat_eq page) pages → cond (own == frame) (list_any (nat_eq page) pages) (is_named_in page old) ≡ true → is_named_in page new ≡ true
+pub still-put : (own frame page : ℕ) (pages : List ℕ) (w : Hold) (old new : Option Hold) → new ≡ cond (is_at (nat_cmp own) frame) (Some w) old → has_page w.pages page ≡ list_any (nat_eq page) pages → cond (own == frame) (list_any (nat_eq page) pages) (is_named_in page old) ≡ true → is_named_in page new ≡ true
 still-put own frame page pages w old new put named still =
     put-as (own == frame) (put ∙ ap (λ b. cond b (Some w) old) (is_at-eqb own frame)) still
   where

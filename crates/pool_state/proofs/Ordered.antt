@@ -1,5 +1,5 @@
 -- The order of numbers and of pairs, and a set of numbers as it grows.
-use Rattle.std.proofs.Common.{◌≡◌, ℕ, ◌-◌, ◌<◌, ◌≤◌, nat_lt, ◌==◌, Bool, true, false, ◌⊎◌, inl, inr, ⊎_elim, nat_cmp, refl, sym, ap, arith, cond, ◌||◌}
+use Rattle.std.proofs.Common.{◌≡◌, ℕ, ◌<◌, ◌≤◌, nat_lt, ◌==◌, Bool, true, false, ◌⊎◌, inl, inr, ⊎_elim, nat_cmp, refl, sym, ap, arith, cond, ◌||◌}
 use Rattle.std.specs.BTreeMap.{is_at}
 use Rattle.std.specs.Ordering.{ordering_then, is_eq}
 use Rattle.std.specs.declared.cmp.Ordering.{Ordering}

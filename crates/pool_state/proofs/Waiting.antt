@@ -1,12 +1,12 @@
 -- Which frames pin a page by name, after those that wait for it were made to, or not to.
 use Rattle.std.proofs.Common.{◌≡◌, ℕ, ◌+◌, ◌==◌, ◌<◌, List, [], ◌∷◌, Bool, true, false, cond, ◌&&◌, ◌||◌, ⊎_elim, Option, Some, None, nat_cmp, nat_eq, length, get_or, take, refl, ap, subst, ◌∙◌, zero, suc}
 use Rattle.std.specs.BTreeMap.{BTreeMap, get}
-use Rattle.std.specs.BTreeSet as tree
 use Rattle.std.proofs.lemmas.List.Folds.{list_any_more}
 use Rattle.pool_state.specs.declared.frames.Hold.{Hold}
 use Rattle.pool_state.specs.Holding.{NamesAt, NamesOne, NamesNone, NamesAll}
 use Rattle.pool_state.specs.Queue.{is_one_of}
 use Rattle.pool_rules.proofs.Tests.{or-cases, or-left, or-right}
+use Rattle.pool_state.specs.Pages.{has_page}
 
 both : (a b eq named before mid after : Bool) → mid ≡ cond (a && eq) named before → after ≡ cond (b && eq) named mid → after ≡ cond ((a || b) && eq) named before
 both true true true named before mid after m n = n
@@ -25,7 +25,7 @@ names-then (Some x) None None a b page named m n = m
 names-then (Some x) None (Some z) a b page named m n = absurd m
 names-then (Some x) (Some y) None a b page named m n = n
 names-then (Some x) (Some y) (Some z) a b page named m n =
-    (n.0 ∙ m.0, n.1 ∙ m.1, λ p. both a b (nat_eq page p) named (tree.contains nat_cmp x.pages p) (tree.contains nat_cmp y.pages p) (tree.contains nat_cmp z.pages p) (m.2 p) (n.2 p))
+    (n.0 ∙ m.0, n.1 ∙ m.1, λ p. both a b (nat_eq page p) named (has_page x.pages p) (has_page y.pages p) (has_page z.pages p) (m.2 p) (n.2 p))
 
 one-more : (frames : List ℕ) (i f : ℕ) → i < length frames → is_one_of (take (i + 1) frames) f ≡ (is_one_of (take i frames) f || (get_or frames i 0 == f))
 one-more frames i f below = list_any_more (λ n. n == f) frames i 0 below
@@ -58,7 +58,7 @@ names-undone (Some w) None y z a b page then m s n = absurd m
 names-undone (Some w) (Some x) None z a b page then m s n = absurd s
 names-undone (Some w) (Some x) (Some y) None a b page then m s n = n
 names-undone (Some w) (Some x) (Some y) (Some z) a b page then m s n =
-    (n.0 ∙ (s.0 ∙ m.0), n.1 ∙ (s.1 ∙ m.1), λ p. undone a b (nat_eq page p) (tree.contains nat_cmp w.pages p) (tree.contains nat_cmp x.pages p) (tree.contains nat_cmp y.pages p) (tree.contains nat_cmp z.pages p) then (m.2 p) (s.2 p) (n.2 p))
+    (n.0 ∙ (s.0 ∙ m.0), n.1 ∙ (s.1 ∙ m.1), λ p. undone a b (nat_eq page p) (has_page w.pages p) (has_page x.pages p) (has_page y.pages p) (has_page z.pages p) then (m.2 p) (s.2 p) (n.2 p))
 
 -- the frames that were made to pin it by name are made not to
 pub NamesAll-undone : (old mid same new : BTreeMap ℕ Hold) (frames : List ℕ) (i page : ℕ) → NamesAll old mid (is_one_of (take i frames)) page true → NamesNone mid same → NamesAll same new (is_one_of frames) page false → NamesAll old new (is_one_of frames) page false

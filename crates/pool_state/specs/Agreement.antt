@@ -1,7 +1,6 @@
 -- When what is kept by index says what the live frames and the arrays say.
 use Rattle.std.specs.Prelude.{◌≡◌, ◌<◌, ◌≤◌, ℕ, List, IsSome, Some, true, length, slice_index_or, false}
 use Rattle.std.specs.BTreeMap.{get}
-use Rattle.std.specs.BTreeSet as set
 use Rattle.std.specs.Ordering.{nat_cmp}
 use Rattle.pool_state.specs.declared.frames.Hold.{Hold}
 use Rattle.pool_state.specs.declared.standings.Standing.{Standing}
@@ -10,6 +9,7 @@ use Rattle.pool_state.specs.Holding.{IsIndexed, IsCounted, AreApart, AreHold, fr
 use Rattle.pool_state.specs.Queue.{IsQueued, IsOwned}
 use Rattle.pool_state.specs.Shown.{shown}
 use Rattle.pool_rules.specs.State.{State}
+use Rattle.pool_state.specs.Pages.{has_page}
 
 pub record Agrees (entries : ℕ) (frames : List Frame) (standing : Standing) : Type 0 where
   -- the count of pages is right
@@ -20,7 +20,7 @@ pub record Agrees (entries : ℕ) (frames : List Frame) (standing : Standing) : 
   pub apart : AreApart frames
   pub hold : (number : ℕ) → AreHold standing.places.resident.items standing.since.items (frame_at number frames) (get nat_cmp standing.frames.holds number)
   -- a page that a frame pins by name is resident
-  pub named : (number : ℕ) (hold : Hold) (page : ℕ) → get nat_cmp standing.frames.holds number ≡ Some hold → set.contains nat_cmp hold.pages page ≡ true → slice_index_or standing.places.resident.items page false ≡ true
+  pub named : (number : ℕ) (hold : Hold) (page : ℕ) → get nat_cmp standing.frames.holds number ≡ Some hold → has_page hold.pages page ≡ true → slice_index_or standing.places.resident.items page false ≡ true
   -- each moment is before the entry to come, at this count of entries
   pub earlier : (moment : ℕ) → IsSome (get nat_cmp standing.frames.moments moment) → moment < entries
   -- each page came by now

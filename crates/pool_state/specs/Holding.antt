@@ -1,13 +1,13 @@
 -- What is kept of the live frames and of the pages that they hold.
 use Rattle.std.specs.Prelude.{◌≡◌, ◌+◌, ◌-◌, ◌<◌, ◌&&◌, ◌||◌, ◌^◌, ℕ, Bool, true, false, List, [], ◌∷◌, length, min, nat_eq, nat_le, Option, None, Some, is_some, count_by, slice_index_or, ◌==◌, find, if◌then◌else◌}
 use Rattle.std.specs.BTreeMap.{BTreeMap, IsOrdered, get, values}
-use Rattle.std.specs.BTreeSet as set
 use Rattle.std.specs.List.{list_any, sum_by}
 use Rattle.std.specs.Ordering.{nat_cmp}
 use Rattle.pool_state.specs.declared.frames.Frames.{Frames}
 use Rattle.pool_state.specs.declared.frames.Hold.{Hold}
 use Rattle.pool_state.specs.declared.places.Places.{Places}
 use Rattle.pool_rules.specs.Frame.{Frame}
+use Rattle.pool_state.specs.Pages.{has_page}
 
 -- the count of those that pass, once one item that passed or didn't does or doesn't
 abbrev pub recounted : ℕ → Bool → Bool → ℕ
@@ -18,8 +18,8 @@ recounted held _ _ = held
 -- the count is of the pages that are resident and of those that are being loaded
 pub record IsCounted (places : Places) : Type 0 where
   pub few_pages : length places.resident.items < 2 ^ 32
-  pub few_makers : length places.loading.items < 2 ^ 32
-  pub held : places.held ≡ count_by (λ resident. resident) places.resident.items + count_by is_some places.loading.items
+  pub few_makers : length places.loading < 2 ^ 32
+  pub held : places.held ≡ count_by (λ resident. resident) places.resident.items + count_by is_some places.loading
 
 -- 1 where it is so, and 0 where it isn't
 abbrev pub one : Bool → ℕ
@@ -29,11 +29,11 @@ one false = 0
 -- 1 where what is held names the page
 abbrev pub named_by : ℕ → Option Hold → ℕ
 named_by page None = 0
-named_by page (Some hold) = one (set.contains nat_cmp hold.pages page)
+named_by page (Some hold) = one (has_page hold.pages page)
 
 -- how many frames pin the page by name
 abbrev pub named_count : ℕ → BTreeMap ℕ Hold → ℕ
-named_count page holds = sum_by (λ hold. one (set.contains nat_cmp hold.pages page)) (values holds)
+named_count page holds = sum_by (λ hold. one (has_page hold.pages page)) (values holds)
 
 abbrev pub moment_in : Option Hold → Option ℕ
 moment_in None = None
@@ -59,7 +59,7 @@ covers (Some moment) since = nat_le since moment
 -- and still is
 abbrev pub pins_of : List Bool → List ℕ → Hold → ℕ → Bool
 pins_of resident since hold page =
-    set.contains nat_cmp hold.pages page
+    has_page hold.pages page
     || (slice_index_or resident page false && covers hold.moment (slice_index_or since page 0))
 
 -- the frame holds this
@@ -101,7 +101,7 @@ abbrev pub NamesAt : Option Hold → Option Hold → Bool → ℕ → Bool → T
 NamesAt None None here page named = Unit {0}
 NamesAt (Some old) (Some new) here page named =
     (new.owner ≡ old.owner) × (new.moment ≡ old.moment)
-    × ((p : ℕ) → set.contains nat_cmp new.pages p ≡ (if here && nat_eq page p then named else set.contains nat_cmp old.pages p))
+    × ((p : ℕ) → has_page new.pages p ≡ (if here && nat_eq page p then named else has_page old.pages p))
 NamesAt _ _ here page named = ⊥
 
 -- all frames hold the same, but that one of them, if it is live, pins the page by name, or doesn't

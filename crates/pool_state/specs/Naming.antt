@@ -3,12 +3,12 @@ use Rattle.std.specs.Prelude.{◌≡◌, ◌≢◌, ℕ, Bool, false, Option, No
 use Rattle.std.specs.BTreeMap.{BTreeMap, get}
 use Rattle.std.specs.Ordering.{nat_cmp}
 use Rattle.pool_state.specs.declared.frames.Hold.{Hold}
-use Rattle.std.specs.BTreeSet as set
+use Rattle.pool_state.specs.Pages.{has_page}
 
 -- whether what is held names the page
 abbrev pub is_named_in : ℕ → Option Hold → Bool
 is_named_in page None = false
-is_named_in page (Some hold) = set.contains nat_cmp hold.pages page
+is_named_in page (Some hold) = has_page hold.pages page
 
 -- whether the frame is live and pins the page by name
 abbrev pub names : BTreeMap ℕ Hold → ℕ → ℕ → Bool

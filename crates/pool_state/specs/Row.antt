@@ -1,22 +1,21 @@
--- Lists that stand one behind another in one list, with the places where they end.
-use Rattle.std.specs.Prelude.{◌≡◌, ◌+◌, ℕ, List, [], ◌∷◌, length, slice_range}
-use Rattle.std.specs.List.{concat}
+-- Lists of numbers by place, of which the short ones stand in the row of their place.
+use Rattle.std.specs.Prelude.{◌≡◌, ◌≤◌, ◌+◌, ℕ, List, [], ◌++◌, length, slice_range}
+use Rattle.pool_state.specs.declared.rows.Row.{Row}
+use Rattle.pool_state.specs.declared.rows.Row.TheVariants.{Nothing, One, Two, Three, Many}
 
--- where each of the lists ends, where the first begins at `start`
-abbrev pub ends_from : ℕ → List (List ℕ) → List ℕ
-ends_from start [] = []
-ends_from start (list ∷ lists) = (start + length list) ∷ ends_from (start + length list) lists
+-- the list of a row: in itself, or among the items
+abbrev pub list_of : List ℕ → Row → List ℕ
+list_of items Nothing = []
+list_of items (One list) = list
+list_of items (Two list) = list
+list_of items (Three list) = list
+list_of items (Many len start) = slice_range items start (start + len)
 
--- the lists between these ends: each begins where the one before it ends, the first at `start`
-abbrev pub rows_from : ℕ → List ℕ → List ℕ → List (List ℕ)
-rows_from start [] items = []
-rows_from start (end ∷ ends) items = slice_range items start end ∷ rows_from end ends items
+-- a row with a long list has it within the items
+abbrev pub IsWithin : List ℕ → Row → Type 0
+IsWithin items (Many len start) = start + len ≤ length items
+IsWithin items _ = Unit {0}
 
--- the lists that the ends and the items spell
-abbrev pub rows_of : List ℕ → List ℕ → List (List ℕ)
-rows_of ends items = rows_from 0 ends items
-
--- the items are those of the lists in order, and the ends are where the lists end
-pub record AreLaid (ends items : List ℕ) : Type 0 where
-  pub joined : concat (rows_of ends items) ≡ items
-  pub ending : ends_from 0 (rows_of ends items) ≡ ends
+-- the items are those that there were, and perhaps more behind them
+abbrev pub IsLonger : List ℕ → List ℕ → Type 0
+IsLonger old new = (more : List ℕ) × (new ≡ old ++ more)

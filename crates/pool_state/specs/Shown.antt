@@ -8,7 +8,7 @@ use Rattle.pool_rules.specs.State.{State}
 abbrev pub shown : Standing → List Frame → State
 shown standing frames = record {
   resident = standing.places.resident.items;
-  loading = standing.places.loading.items;
+  loading = standing.places.loading;
   frames = frames;
   wants = values standing.wants.queue;
   named = standing.named.items;

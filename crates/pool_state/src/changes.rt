@@ -15,12 +15,12 @@ ghost use Rattle.journal.specs.declared.entries.What.TheVariants.{Pin, Settle, A
 ghost use Rattle.journal.specs.declared.layouts.Layout.{Layout};
 
 use crate::arrays::name_at;
-use crate::frames::{Frames, Hold, set_of};
+use crate::frames::{Frames, Hold};
+use crate::named_pages::NamedPages;
 use crate::standings::Standing;
 use geom_core::{Digest32, Memory};
 use journal::{Entry, What};
 use std::alloc::Global;
-use std::collections::BTreeSet;
 
 /// Makes these frames, where they are live, pin the page by name no more.
 fn unname_waiting(frames: &mut Frames, waiting: &[u32], page: u32)
@@ -81,7 +81,7 @@ impl Standing {
         let hold = Hold {
             owner: by,
             moment: Some(self.entries),
-            pages: BTreeSet::new(alloc),
+            pages: NamedPages::none(alloc),
         };
         self.frames.put(frame, hold)?;
         Ok(())
@@ -115,7 +115,7 @@ impl Standing {
         let hold = Hold {
             owner: by,
             moment: None,
-            pages: set_of(alloc, pages)?,
+            pages: NamedPages::of(alloc, pages)?,
         };
         self.wants
             .set(alloc, &self.frames, self.entries, frame, true, missing)?;
@@ -157,7 +157,7 @@ impl Standing {
         let hold = Hold {
             owner: by,
             moment: None,
-            pages: set_of(alloc, pages)?,
+            pages: NamedPages::of(alloc, pages)?,
         };
         self.frames.put(frame, hold)?;
         name_at(&mut self.named, pages, self.entries + 1);

@@ -1,12 +1,13 @@
-ghost use Rattle.std.specs.Prelude.{◌≡◌, ◌≢◌, ◌+◌, ◌-◌, ◌<◌, ◌≤◌, ◌^◌, ℕ, IfOk, IfSome, IsSome, IsTrue, OnOk, OnErr, OnSome, None, Some, true, false, length, min, nat_eq, slice_index_or, ◌⊎◌, cond, is_some};
+ghost use Rattle.std.specs.Prelude.{◌≡◌, ◌≢◌, ◌+◌, ◌-◌, ◌<◌, ◌≤◌, ◌^◌, ℕ, IfOk, IfSome, IsSome, IsTrue, OnOk, OnErr, OnSome, None, Some, true, false, length, min, nat_eq, count_by, slice_index_or, ◌⊎◌, cond, is_some};
 ghost use Rattle.std.specs.BTreeMap.{get, is_at, Updates, IsUnchanged};
 ghost use Rattle.std.specs.BTreeSet as set;
-ghost use Rattle.std.specs.List.{list_any};
 ghost use Rattle.std.specs.Ordering.{nat_cmp};
 ghost use Rattle.pool_state.specs.Naming.{names};
-ghost use Rattle.pool_state.specs.Holding.{IsIndexed, NamesNone, NamesOne, moment_in, named_by, one, listed, unlisted};
+ghost use Rattle.pool_state.specs.Pages.{has_page};
+ghost use Rattle.pool_state.specs.Holding.{IsIndexed, NamesNone, NamesOne, moment_in, named_by, named_count, one, listed, unlisted};
 
 use crate::arrays::{count_at, lower, raise};
+use crate::named_pages::NamedPages;
 use geom_core::Memory;
 use std::alloc::{AllocError, Global};
 use std::collections::{BTreeMap, BTreeSet};
@@ -20,7 +21,7 @@ pub struct Hold {
     /// None once it settled or narrowed.
     pub moment: Option<u64>,
     /// The pages that it pins by name.
-    pub pages: BTreeSet<u32>,
+    pub pages: NamedPages,
 }
 
 /// What the live frames hold, with indexes by moment and by page.
@@ -34,20 +35,19 @@ pub struct Frames {
     pub counts: Vec<u64>,
 }
 
-/// The set of these pages.
-pub fn set_of(alloc: Global, pages: &[u32]) -> Result<BTreeSet<u32>, AllocError>
-    ensures { IfOk result (λ named. (page : ℕ) →
-        set.contains nat_cmp named page ≡ list_any (nat_eq page) pages.now) }
+/// Counts one frame more for each of the pages.
+fn raise_listed(counts: &mut [u64], pages: &[u32])
+    ensures len { length counts.new ≡ length counts.old }
+    ensures counts { (p : ℕ) → p < length counts.old → slice_index_or counts.new p 0
+        ≡ min (slice_index_or counts.old p 0 + count_by (λ q. nat_eq q p) pages.now) (2 ^ 64 - 1) }
 {
-    let mut named = BTreeSet::new(alloc);
     for page in pages {
-        named.insert(*page)?;
+        raise(counts, *page);
     }
-    Ok(named)
 }
 
 /// Counts one frame more at each of the pages.
-fn raise_all(counts: &mut [u64], pages: &BTreeSet<u32>)
+fn raise_set(counts: &mut [u64], pages: &BTreeSet<u32>)
     ensures len { length counts.new ≡ length counts.old }
     ensures counts { (p : ℕ) → p < length counts.old → slice_index_or counts.new p 0
         ≡ min (slice_index_or counts.old p 0 + one (set.contains nat_cmp pages.now p)) (2 ^ 64 - 1) }
@@ -57,8 +57,30 @@ fn raise_all(counts: &mut [u64], pages: &BTreeSet<u32>)
     }
 }
 
+/// Counts one frame more at each of the pages.
+fn raise_all(counts: &mut [u64], pages: &NamedPages)
+    ensures len { length counts.new ≡ length counts.old }
+    ensures counts { (p : ℕ) → p < length counts.old → slice_index_or counts.new p 0
+        ≡ min (slice_index_or counts.old p 0 + one (has_page pages.now p)) (2 ^ 64 - 1) }
+{
+    let (listed, installed) = pages.parts();
+    raise_listed(counts, listed);
+    raise_set(counts, installed);
+}
+
+/// Counts one frame less for each of the pages.
+fn lower_listed(counts: &mut [u64], pages: &[u32])
+    ensures len { length counts.new ≡ length counts.old }
+    ensures counts { (p : ℕ) → p < length counts.old → slice_index_or counts.new p 0
+        ≡ slice_index_or counts.old p 0 - count_by (λ q. nat_eq q p) pages.now }
+{
+    for page in pages {
+        lower(counts, *page);
+    }
+}
+
 /// Counts one frame less at each of the pages.
-fn lower_all(counts: &mut [u64], pages: &BTreeSet<u32>)
+fn lower_set(counts: &mut [u64], pages: &BTreeSet<u32>)
     ensures len { length counts.new ≡ length counts.old }
     ensures counts { (p : ℕ) → p < length counts.old → slice_index_or counts.new p 0
         ≡ slice_index_or counts.old p 0 - one (set.contains nat_cmp pages.now p) }
@@ -66,6 +88,17 @@ fn lower_all(counts: &mut [u64], pages: &BTreeSet<u32>)
     for page in pages.iter() {
         lower(counts, *page);
     }
+}
+
+/// Counts one frame less at each of the pages.
+fn lower_all(counts: &mut [u64], pages: &NamedPages)
+    ensures len { length counts.new ≡ length counts.old }
+    ensures counts { (p : ℕ) → p < length counts.old → slice_index_or counts.new p 0
+        ≡ slice_index_or counts.old p 0 - one (has_page pages.now p) }
+{
+    let (listed, installed) = pages.parts();
+    lower_listed(counts, listed);
+    lower_set(counts, installed);
 }
 
 /// Lists the frame at its moment, if it has one.
@@ -143,25 +176,29 @@ impl Frames {
     pub fn is_named(&self, page: u32) -> bool
         ensures named { IsIndexed self.now → result ≡ true →
             (f : ℕ) × (hold : Hold) × (get nat_cmp self.now.holds f ≡ Some hold)
-            × (set.contains nat_cmp hold.pages page ≡ true) }
+            × (has_page hold.pages page ≡ true) }
         ensures unnamed { IsIndexed self.now → page < length self.now.counts.items →
             result ≡ false → (f : ℕ) (hold : Hold) → get nat_cmp self.now.holds f ≡ Some hold →
-            set.contains nat_cmp hold.pages page ≡ false }
+            has_page hold.pages page ≡ false }
     {
         count_at(&self.counts, page) > 0
     }
 
     /// Whether more than one live frame pins the page by name.
     pub fn is_shared(&self, page: u32) -> bool
-        ensures { IsIndexed self.now → result ≡ true → (frame : ℕ) →
+        ensures shared { IsIndexed self.now → result ≡ true → (frame : ℕ) →
             (f : ℕ) × (f ≢ frame) × (names self.now.holds f page ≡ true) }
+        ensures alone { IsIndexed self.now → page < length self.now.counts.items →
+            result ≡ false → named_count page self.now.holds ≤ 1 }
     {
         count_at(&self.counts, page) > 1
     }
 
     /// The greatest moment of a live frame.
     pub fn last_moment(&self) -> Option<u64>
-        ensures { IfSome result (λ m. IsSome (get nat_cmp self.now.moments m)) }
+        ensures some { IfSome result (λ m. IsSome (get nat_cmp self.now.moments m)) }
+        ensures greatest { (m : ℕ) → IsSome (get nat_cmp self.now.moments m) →
+            (last : ℕ) × (result ≡ Some last) × (m ≤ last) }
     {
         match self.moments.last_key_value() {
             Some((moment, _)) => Some(*moment),
@@ -319,7 +356,7 @@ impl Frames {
         ensures indexed { IsIndexed self.old → IsIndexed self.new }
     {
         if let Some(hold) = self.holds.get_mut(&frame) {
-            if hold.pages.remove(&page) {
+            if hold.pages.remove(page) {
                 lower(&mut self.counts, page);
             }
         }

@@ -7,6 +7,8 @@
 mod arrays;
 mod changes;
 mod frames;
+mod loaders;
+mod named_pages;
 mod places;
 mod plans;
 mod rows;
@@ -15,6 +17,8 @@ mod wants;
 
 pub use arrays::{count_at, lower, raise, zeros};
 pub use frames::{Frames, Hold};
+pub use loaders::Loaders;
+pub use named_pages::NamedPages;
 pub use places::Places;
 pub use plans::Plan;
 pub use rows::Rows;

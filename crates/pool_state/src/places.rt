@@ -1,8 +1,9 @@
-ghost use Rattle.std.specs.Prelude.{◌≡◌, IfOk, count_by, false, None, map, nat_lt, replicate, slice_index_or, slice_set};
+ghost use Rattle.std.specs.Prelude.{◌≡◌, IfOk, count_by, false, is_some, None, map, nat_lt, replicate, slice_index_or, slice_set};
 ghost use Rattle.pool_state.specs.Holding.{IsCounted, recounted};
 ghost use Rattle.journal.specs.Layout.{page_numbers};
 
 use crate::arrays::write;
+use crate::loaders::Loaders;
 use crate::plans::Plan;
 use geom_core::Memory;
 use std::alloc::Global;
@@ -13,7 +14,7 @@ pub struct Places {
     /// By page: whether it is resident.
     pub resident: Vec<bool>,
     /// By page: the maker that is loading it, if one is.
-    pub loading: Vec<Option<u32>>,
+    pub loading: Loaders,
     /// How many pages are resident, and how many are being loaded, together.
     pub held: u64,
 }
@@ -25,13 +26,6 @@ fn root_marks(alloc: Global, layout: &Plan) -> Result<Vec<bool>, Memory>
 {
     let roots = layout.roots();
     Ok((0..layout.pages()).map(|page| page < roots).collect(alloc)?)
-}
-
-/// No maker for each of the pages.
-fn unloaded(alloc: Global, pages: u32) -> Result<Vec<Option<u32>>, Memory>
-    ensures { IfOk result (λ makers. makers.items ≡ replicate pages None) }
-{
-    Ok(vec![in alloc; None; pages as usize]?)
 }
 
 /// How many pages are marked.
@@ -57,12 +51,12 @@ impl Places {
     pub fn opening(alloc: Global, layout: &Plan) -> Result<Places, Memory>
         ensures resident { IfOk result (λ places. places.resident.items
             ≡ map (λ page. nat_lt page layout.now.roots) (page_numbers layout.now)) }
-        ensures loading { IfOk result (λ places. places.loading.items
+        ensures loading { IfOk result (λ places. places.loading
             ≡ replicate layout.now.pages None) }
         ensures counted { IfOk result IsCounted }
     {
         let resident = root_marks(alloc, layout)?;
-        let loading = unloaded(alloc, layout.pages())?;
+        let loading = Loaders::none(alloc, layout.pages())?;
         let held = marked(&resident);
         Ok(Places {
             resident,
@@ -78,14 +72,18 @@ impl Places {
         self.resident.get(page as usize).copied().unwrap_or(false)
     }
 
+    /// Whether the page is being loaded.
+    pub fn is_loading(&self, page: u32) -> bool
+        ensures { result ≡ is_some (slice_index_or self.now.loading page None) }
+    {
+        self.loading.is_loading(page)
+    }
+
     /// The maker that is loading the page, if one is.
     pub fn loader_of(&self, page: u32) -> Option<u32>
-        ensures { result ≡ slice_index_or self.now.loading.items page None }
+        ensures { result ≡ slice_index_or self.now.loading page None }
     {
-        match self.loading.get(page as usize) {
-            Some(maker) => *maker,
-            None => None,
-        }
+        self.loading.loader_of(page)
     }
 
     /// Makes the page resident, or no more resident.
@@ -104,14 +102,13 @@ impl Places {
 
     /// Makes the page one that this maker is loading, or that none is.
     pub fn set_loader(&mut self, page: u32, maker: Option<u32>)
-        ensures loading { self.new.loading.items ≡ slice_set self.old.loading.items page maker }
+        ensures loading { self.new.loading ≡ slice_set self.old.loading page maker }
         ensures resident { self.new.resident ≡ self.old.resident }
         ensures counted { IsCounted self.old → IsCounted self.new }
     {
         if (page as usize) < self.loading.len() {
-            let was = self.loading[page as usize];
-            self.held = recount(self.held, was.is_some(), maker.is_some());
-            self.loading[page as usize] = maker;
+            self.held = recount(self.held, self.is_loading(page), maker.is_some());
+            self.loading.set(page, maker);
         }
     }
 }

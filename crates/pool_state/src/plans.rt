@@ -1,5 +1,5 @@
 ghost use Rattle.std.specs.Prelude.{◌≡◌, IfOk};
-ghost use Rattle.journal.specs.Layout.{is_upper, uppers_of};
+ghost use Rattle.journal.specs.Layout.{InBounds, is_upper, uppers_of};
 
 use crate::rows::Rows;
 use geom_core::Memory;
@@ -7,7 +7,7 @@ use journal::Layout;
 use std::alloc::Global;
 use std::marker::Model;
 
-/// A layout whose uppers stand one behind another, as the machine reads it. A contract sees the layout.
+/// A layout whose uppers stand close together, as the machine reads it. A contract sees the layout.
 #[derive(Debug, Drop)]
 pub struct Plan {
     pages: u32,
@@ -32,6 +32,7 @@ impl Model for Plan {
 impl Plan {
     /// The plan of a layout.
     pub fn of(alloc: Global, layout: &Layout) -> Result<Plan, Memory>
+        requires { InBounds layout.now }
         ensures { IfOk result (λ plan. plan ≡ layout.now) }
     {
         Ok(Plan {

@@ -84,7 +84,7 @@ impl Standing {
     pub fn is_loading(&self, page: u32) -> bool
         ensures { result ≡ is_loading (shown self.now []) page }
     {
-        self.places.loader_of(page).is_some()
+        self.places.is_loading(page)
     }
 
     /// Whether the page is resident or being loaded.
@@ -118,7 +118,7 @@ impl Standing {
     {
         match self.frames.holds.get(&frame) {
             Some(hold) => {
-                hold.pages.contains(&page)
+                hold.pages.contains(page)
                     || self.is_resident(page) && covers(hold.moment, count_at(&self.since, page))
             }
             None => false,

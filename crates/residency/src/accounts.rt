@@ -96,7 +96,8 @@ impl Account {
             InBounds layout.now → IsLegal layout.now journal →
             is_allowed layout.now journal entry.now ≡ true →
             OnErr result (IsAt layout.now (state_of layout.now journal) (record self.new {
-            leaves = record self.new.leaves { recent = self.old.leaves.recent } })) }
+              leaves = record self.new.leaves { recent = self.old.leaves.recent };
+            })) }
         ensures recent { OnErr result (take (length self.old.leaves.recent) self.new.leaves.recent
             ≡ self.old.leaves.recent) }
         ensures recall { self.new.recall ≡ self.old.recall }

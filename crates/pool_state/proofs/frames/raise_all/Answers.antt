@@ -1,20 +1,16 @@
-use Rattle.std.proofs.Common.{◌≡◌, ◌∷◌, [], ◌<◌, arith, rules, slice_index_or, length}
-use Rattle.std.proofs.lemmas.Map.Iter.{rest_more, rest_all}
-use Rattle.std.specs.Map.Iter.{deref}
-use Rattle.pool_state.proofs.Counts.{raised-step, raised-end}
+use Rattle.std.proofs.Common.{◌≡◌, ◌+◌, ◌<◌, ◌∙◌, ap, arith, length, nat_cmp, nat_eq}
+use Rattle.std.specs.BTreeSet.{contains}
+use Rattle.std.specs.List.{count_by}
+use Rattle.pool_state.specs.Holding.{one}
+use Rattle.pool_state.specs.Pages.{has_page}
+use Rattle.pool_state.proofs.Counts.{count-ascending}
+use Rattle.pool_state.proofs.Paged.{one-apart}
 use Rattle.pool_state.proofs.frames.raise_all.Goals as goal
-
-pub loop-page-preserved : goal.loop-page-preserved
-loop-page-preserved c =
-    let rest : c.loop-page.page-iterator ≡ c.in-Some.page.now ∷ c.next.new.self = rest_more deref _ _ _ _ c.in-Some.is c.next.ensures.steps in
-    record {
-      len = search rules;
-      fits = λ p below. omega (arith, c.raise.ensures.counts p (search rules));
-      counts = λ p below. raised-step p c.in-Some.page.now (slice_index_or c.loop-page.counts p 0) (slice_index_or c.raise.new.counts p 0) _ c.loop-page.page-iterator c.next.new.self rest (c.raise.ensures.counts p (search rules)) (c.loop-page.invariant.counts p (search rules));
-    }
 
 pub returns-clause-counts : goal.returns-clause-counts
 returns-clause-counts c = λ p below.
-    let rest : c.loop-page.page-iterator ≡ [] = rest_all deref _ _ _ c.in-None.is c.next.ensures.steps in
-    let here : p < length c.loop-page.counts = omega (arith, below, c.loop-page.invariant.len) in
-    raised-end p (slice_index_or c.loop-page.counts p 0) (slice_index_or c.args.counts.now p 0) c.loop-page.page-iterator c.args.pages.now.keys rest (c.loop-page.invariant.fits p here) c.iter-page-items.ensures.ordered (c.loop-page.invariant.counts p here)
+    let parts = c.parts.result in
+    let listed : count_by (λ q. nat_eq q p) parts.0.now ≡ one (has_page parts.0.now p) = count-ascending 0 p parts.0.now c.parts.ensures.ascending in
+    let both : one (has_page c.args.pages.now p) ≡ one (has_page parts.0.now p) + one (contains nat_cmp parts.1.now p) = ap one (c.parts.ensures.all p) ∙ one-apart (has_page parts.0.now p) (contains nat_cmp parts.1.now p) (c.parts.ensures.apart p) in
+    let here : p < length c.raise_listed.new.counts = omega (arith, below, c.raise_listed.ensures.len) in
+    omega (arith, c.raise_listed.ensures.counts p below, c.raise_set.ensures.counts p here, listed, both)

@@ -6,13 +6,21 @@ use Rattle.residency.proofs.Foremost.{empty, find-end, find-here, find-later, fi
 use Rattle.residency.proofs.victims.first_recent.Goals as goal
 
 pub loop-place-init : goal.loop-place-init
-loop-place-init c = (tt, tt, λ entries frames agrees ranks.
-    ap (λ places. find (fits_there c.args.layout.now (shown c.args.account.now.standing frames) c.args.page) places) (ap deque_iter_rest c.into_iter-place-iterator.ensures.into_iter_gives ∙ c.iter-place-items.ensures.rest))
+loop-place-init c = (
+  tt,
+  tt,
+  λ entries frames agrees ranks.
+      ap (λ places. find (fits_there c.args.layout.now (shown c.args.account.now.standing frames) c.args.page) places) (ap deque_iter_rest c.into_iter-place-iterator.ensures.into_iter_gives ∙ c.iter-place-items.ensures.rest),
+)
 
 pub loop-place-preserved : goal.loop-place-preserved
-loop-place-preserved c = (tt, tt, λ entries frames agrees ranks.
-    let s = shown c.args.account.now.standing frames in
-    find-later (fits_there c.args.layout.now s c.args.page) _ _ c.args.account.now.leaves.recent c.in-Some.place.now c.in-Some.ensures.steps (sym (c.fits.ensures entries frames agrees ranks) ∙ c.if-fits.false) (c.loop-place.invariant.2 entries frames agrees ranks))
+loop-place-preserved c = (
+  tt,
+  tt,
+  λ entries frames agrees ranks.
+      let s = shown c.args.account.now.standing frames in
+      find-later (fits_there c.args.layout.now s c.args.page) _ _ c.args.account.now.leaves.recent c.in-Some.place.now c.in-Some.ensures.steps (sym (c.fits.ensures entries frames agrees ranks) ∙ c.if-fits.false) (c.loop-place.invariant.2 entries frames agrees ranks),
+)
 
 pub returns-then-fits : goal.returns-then-fits
 returns-then-fits c = λ entries frames agrees ranks.

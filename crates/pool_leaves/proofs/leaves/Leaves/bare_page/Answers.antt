@@ -10,8 +10,8 @@ returns-then-not-is_baring-clause-ok c = λ entries frames agrees ranked below i
 
 pub returns-clause-ok : goal.returns-clause-ok
 returns-clause-ok c = λ entries frames agrees ranked.
-    on_ok c.put.result (λ put below inner few. bare-put entries frames c.args.standing.now c.put.new.self c.last_moment-moment.result c.args.page agrees c.last_moment-moment.ensures put) c.put.ensures.ok
+    on_ok c.put.result (λ put below inner few. bare-put entries frames c.args.standing.now c.put.new.self c.last_moment-moment.result c.args.page agrees c.last_moment-moment.ensures.some put) c.put.ensures.ok
 
 pub returns-then-branch-clause-ok : goal.returns-then-branch-clause-ok
 returns-then-branch-clause-ok c = λ entries frames agrees ranked below inner few.
-    bare-put entries frames c.args.standing.now c.put_behind.new.self c.last_moment-moment.result c.args.page agrees c.last_moment-moment.ensures (c.in_ok-put_behind.ensures.ok c.if-branch.true)
+    bare-put entries frames c.args.standing.now c.put_behind.new.self c.last_moment-moment.result c.args.page agrees c.last_moment-moment.ensures.some (c.in_ok-put_behind.ensures.ok c.if-branch.true)

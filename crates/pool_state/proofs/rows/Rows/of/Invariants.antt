@@ -1,11 +1,11 @@
-use Rattle.std.proofs.Common.{◌≡◌, take}
-use Rattle.std.specs.List.{concat}
-use Rattle.pool_state.specs.Row.{ends_from}
+use Rattle.std.proofs.Common.{◌≡◌, map, take}
+use Rattle.std.specs.List.{All}
+use Rattle.pool_state.specs.Row.{IsWithin, list_of}
 use Rattle.pool_state.proofs.rows.Rows.of.Given as goal
 
--- the lists so far stand one behind another
+-- the rows so far have the lists so far, the long ones within the items
 abbrev pub invariant-loop-list : goal.invariant-loop-list
 invariant-loop-list l = record {
-  ends : l.ends.items ≡ ends_from 0 (take l.list-index l.lists);
-  items : l.items.items ≡ concat (take l.list-index l.lists);
+  lists : map (list_of l.items.items) l.rows.items ≡ take l.list-index l.lists;
+  within : All (IsWithin l.items.items) l.rows.items;
 }

@@ -21,7 +21,7 @@ returns-clause-ok c = λ frames agrees absent below.
     let takes = c.take_all.ensures in
     let wants = c.take_all.new.self in
     let resident = ap (λ v. v.items) c.set_loader.ensures.resident ∙ c.set_resident.ensures.resident in
-    let loading = c.set_loader.ensures.loading ∙ ap (λ v. set v.items page None) c.set_resident.ensures.loading in
+    let loading = c.set_loader.ensures.loading ∙ ap (λ v. set v page None) c.set_resident.ensures.loading in
     record {
       shows = same-state _ _ _ _ _ _ _ _ _ _ _ resident loading (values-taken x.entries page tickets x.wants wants agrees.queued lists takes) c.write_count-2.ensures;
       agrees = Agrees-installed x.entries frames x _ page agrees absent below resident (c.set_loader.ensures.counted (c.set_resident.ensures.counted agrees.counted)) c.write_count.ensures named names.moments (names.indexed agrees.indexed) names.counts

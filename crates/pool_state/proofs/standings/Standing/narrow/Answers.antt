@@ -23,15 +23,15 @@ returns-clause-ok c = λ frames agrees all.
     let x = c.args.self.now in
     let pages = c.args.pages.now in
     let resident = x.places.resident.items in
-    let w : Hold = record { owner = c.args.by; moment = None; pages = c.in_ok-set_of.field-0 } in
+    let w : Hold = record { owner = c.args.by; moment = None; pages = c.in_ok-of.field-0 } in
     let f : Frame = record { number = c.args.frame; owner = c.args.by; pins = marked (length resident) pages } in
     let told : c.name_at.new.named ≡ name_at (x.entries + 1) pages x.named.items = c.name_at.ensures ∙ ap (λ ns. name_at (x.entries + 1) pages ns) c.deref_mut.ensures.value in
     let named = with_items_is x.named c.name_at.new.named (omega (arith, x.named.ok.0, name_at-len x.named.items pages (x.entries + 1), ap length told)) in
     record {
       shows = ap (λ (named : List ℕ). shows-with x frames f named) (named ∙ told);
       agrees = Agrees-put x.entries _ frames x _ f w agrees refl refl c.in_ok-put.ensures.ok.0 (c.put.ensures.indexed agrees.indexed (λ m own. no-moment m None refl own)) c.put.ensures.counts
-          (IsHold-named resident x.since.items c.args.frame c.args.by pages w all refl refl c.in_ok-set_of.ensures)
-          (λ page has. named-resident resident pages _ page all (c.in_ok-set_of.ensures page) has)
+          (IsHold-named resident x.since.items c.args.frame c.args.by pages w all refl refl c.in_ok-of.ensures)
+          (λ page has. named-resident resident pages _ page all (c.in_ok-of.ensures page) has)
           (λ m some. later x.entries frames x m agrees (c.in_ok-put.ensures.moments m some)) (omega arith)
           (IsQueued-later x.entries (x.entries + 1) x.wants (omega arith) agrees.queued) (IsOwned-put x.frames.holds c.put.new.self.holds c.args.frame w x.wants c.in_ok-put.ensures.ok.0 agrees.owned);
     }

@@ -39,13 +39,13 @@ returns-then-is_live-clause-moves c =
 pub returns-clause-ok : goal.returns-clause-ok
 returns-clause-ok c = λ frames agrees.
     let x = c.args.self.now in
-    let w : Hold = record { owner = c.args.by; moment = Some x.entries; pages = c.new.result } in
+    let w : Hold = record { owner = c.args.by; moment = Some x.entries; pages = c.none.result } in
     let put = c.in_ok-put.ensures in
     record {
       shows = refl;
       agrees = Agrees-put x.entries _ frames x _ (record { number = c.args.frame; owner = c.args.by; pins = x.places.resident.items }) w agrees refl refl put.ok.0 (c.put.ensures.indexed agrees.indexed (fresh-moment x.entries frames x agrees)) c.put.ensures.counts
-          (IsHold-pinned x.entries x.places.resident.items x.since.items c.args.frame c.args.by w agrees.came refl refl (named-none w x.places.resident.items c.new.ensures.empty))
-          (named-none w x.places.resident.items c.new.ensures.empty)
+          (IsHold-pinned x.entries x.places.resident.items x.since.items c.args.frame c.args.by w agrees.came refl refl (named-none w x.places.resident.items c.none.ensures))
+          (named-none w x.places.resident.items c.none.ensures)
           (λ m some. put-earlier x.entries frames x m agrees (put.moments m some)) (omega arith)
           (IsQueued-later x.entries (x.entries + 1) x.wants (omega arith) agrees.queued) (IsOwned-put x.frames.holds c.put.new.self.holds c.args.frame w x.wants put.ok.0 agrees.owned);
     }

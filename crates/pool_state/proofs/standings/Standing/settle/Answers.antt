@@ -24,7 +24,7 @@ returns-clause-ok c = λ frames agrees all live up.
     let pages = c.args.pages.now in
     let missing = c.args.missing.now in
     let resident = x.places.resident.items in
-    let w : Hold = record { owner = c.args.by; moment = None; pages = c.in_ok-set_of.field-0 } in
+    let w : Hold = record { owner = c.args.by; moment = None; pages = c.in_ok-of.field-0 } in
     let f : Frame = record { number = c.args.frame; owner = c.args.by; pins = marked (length resident) pages } in
     let told : c.name_at.new.named ≡ name_at (x.entries + 1) pages x.named.items = c.name_at.ensures ∙ ap (λ ns. name_at (x.entries + 1) pages ns) c.deref_mut.ensures.value in
     let named = with_items_is x.named c.name_at.new.named (omega (arith, x.named.ok.0, name_at-len x.named.items pages (x.entries + 1), ap length told)) in
@@ -35,8 +35,8 @@ returns-clause-ok c = λ frames agrees all live up.
     record {
       shows = same-state _ _ _ _ _ _ _ _ _ _ _ refl refl wants (named ∙ told);
       agrees = Agrees-put x.entries _ frames x _ f w agrees refl refl put (c.rename.ensures.indexed agrees.indexed) c.rename.ensures.counts
-          (IsHold-named resident x.since.items c.args.frame c.args.by pages w all refl refl c.in_ok-set_of.ensures)
-          (λ page has. named-resident resident pages _ page all (c.in_ok-set_of.ensures page) has)
+          (IsHold-named resident x.since.items c.args.frame c.args.by pages w all refl refl c.in_ok-of.ensures)
+          (λ page has. named-resident resident pages _ page all (c.in_ok-of.ensures page) has)
           (λ m some. omega (arith, agrees.earlier m (c.rename.ensures.moments m some))) (omega arith)
           (set.queued agrees.queued agrees.owned held) (IsOwned-put x.frames.holds c.rename.new.self.holds c.args.frame w c.set.new.self put (set.owned agrees.queued agrees.owned held));
     }
@@ -44,10 +44,10 @@ returns-clause-ok c = λ frames agrees all live up.
 pub returns-clause-moves : goal.returns-clause-moves
 returns-clause-moves c = λ frames agrees live.
     let x = c.args.self.now in
-    let w : Hold = record { owner = c.args.by; moment = None; pages = c.in_ok-set_of.field-0 } in
+    let w : Hold = record { owner = c.args.by; moment = None; pages = c.in_ok-of.field-0 } in
     let held : is_some (get nat_cmp x.frames.holds c.args.frame) ≡ true = sym (live-found x.entries frames x c.args.frame agrees) ∙ live in
     let put = c.rename.ensures.put held in
     record {
-      names = λ g page still. still-put c.args.frame g page c.args.pages.now w _ _ (put g) (c.in_ok-set_of.ensures page) still;
+      names = λ g page still. still-put c.args.frame g page c.args.pages.now w _ _ (put g) (c.in_ok-of.ensures page) still;
       since = refl;
     }

@@ -3,7 +3,7 @@ use Rattle.std.specs.BTreeSet as set
 use Rattle.std.specs.List.{list_any}
 use Rattle.std.specs.Ordering.{nat_cmp}
 use Rattle.std.specs.Prelude.{nat_eq}
-use Rattle.pool_state.proofs.frames.set_of.Given as goal
+use Rattle.pool_state.proofs.named_pages.set_of.Given as goal
 
 -- the set is of the pages so far
 abbrev pub invariant-loop-page : goal.invariant-loop-page

@@ -1,6 +1,6 @@
 use Rattle.std.proofs.Common.{◌≡◌, ℕ, ◌-◌, ◌<◌, length, slice_index_or, nat_eq}
 use Rattle.std.specs.List.{count_by}
-use Rattle.pool_state.proofs.frames.lower_all.Given as goal
+use Rattle.pool_state.proofs.frames.lower_set.Given as goal
 
 -- the counts so far, and one less for each of the pages left, are those of all
 abbrev pub invariant-loop-page : goal.invariant-loop-page

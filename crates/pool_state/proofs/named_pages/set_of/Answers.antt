@@ -2,7 +2,7 @@ use Rattle.std.proofs.Common.{◌∙◌, ◌||◌, ◌==◌, ap, sym, get_or, le
 use Rattle.std.specs.BTreeSet as set
 use Rattle.std.proofs.lemmas.List.Folds.{list_any_more}
 use Rattle.pool_state.proofs.Ordered.{put-in, rising-test}
-use Rattle.pool_state.proofs.frames.set_of.Goals as goal
+use Rattle.pool_state.proofs.named_pages.set_of.Goals as goal
 
 pub loop-page-preserved : goal.loop-page-preserved
 loop-page-preserved c = λ page.
