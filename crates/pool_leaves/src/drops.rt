@@ -5,7 +5,7 @@ ghost use Rattle.pool_leaves.specs.Parking.{Ranks};
 ghost use Rattle.journal.specs.declared.layouts.Layout.{Layout};
 
 use crate::leaves::{Leaves, is_live, remove};
-use crate::releases::after;
+use crate::releases::first_uncovered;
 use pool_state::{Plan, Standing, count_at};
 use std::cmp::Reverse;
 use std::collections::BTreeSet;
@@ -171,7 +171,7 @@ impl Leaves {
             Ranks layout.now frames standing.now self.new }
     {
         self.drop_first(layout, standing);
-        self.drop_last(standing, after(standing.frames.last_moment()));
+        self.drop_last(standing, first_uncovered(standing.frames.last_moment()));
     }
 
     /// Lets pages stand in no place but their own where a search for a victim went that found none. While
@@ -181,7 +181,7 @@ impl Leaves {
             Ranks layout.now frames standing.now self.old →
             Ranks layout.now frames standing.now self.new }
     {
-        let start = after(standing.frames.last_moment());
+        let start = first_uncovered(standing.frames.last_moment());
         if start > 0 {
             self.drop_from(standing, start);
             return;

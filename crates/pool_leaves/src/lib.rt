@@ -14,4 +14,4 @@ mod releases;
 
 pub use leaves::Leaves;
 pub use recents::Recents;
-pub use releases::after;
+pub use releases::first_uncovered;

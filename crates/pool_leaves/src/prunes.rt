@@ -10,7 +10,7 @@ ghost use Rattle.pool_leaves.specs.declared.leaves.Leaves.{Leaves};
 ghost use Rattle.journal.specs.declared.layouts.Layout.{Layout};
 
 use crate::leaves::{Leaves, is_in, remove};
-use crate::releases::after;
+use crate::releases::first_uncovered;
 use journal::What;
 use pool_state::{Plan, Standing, count_at};
 use std::cmp::Reverse;
@@ -44,7 +44,7 @@ fn unsweep(
         Agrees entries frames standing.now → Ranks layout frames standing.now leaves →
         Ranks layout frames standing.now (record leaves { order = order.new }) }
 {
-    let start = after(standing.frames.moment_without(frame));
+    let start = first_uncovered(standing.frames.moment_without(frame));
     for place in parked.range(..=(Reverse(start), u32::MAX)) {
         let (Reverse(since), page) = *place;
         unorder(order, standing, since, page);

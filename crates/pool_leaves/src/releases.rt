@@ -30,7 +30,7 @@ fn is_among(pages: &[u32], page: u32) -> bool
 }
 
 /// The first count that the moment doesn't cover.
-pub fn after(moment: Option<u64>) -> u64
+pub fn first_uncovered(moment: Option<u64>) -> u64
     ensures { (count : ℕ) → covers moment count ≡ false → result ≤ count }
 {
     match moment {
@@ -70,7 +70,7 @@ fn sweep(
         list_any (nat_eq page) pages.now ≡ false →
         ranks order.new (slice_index_or named.now page 0) page ≡ true) }
 {
-    for place in parked.range(..=(Reverse(after(moment)), u32::MAX)) {
+    for place in parked.range(..=(Reverse(first_uncovered(moment)), u32::MAX)) {
         let (_, page) = *place;
         order_but(order, named, pages, page)?;
     }

@@ -13,6 +13,7 @@ use Rattle.pool_state.specs.declared.standings.Standing.{Standing}
 use Rattle.pool_state.specs.Holding.{recounted, named_by, named_count, moment_of, covers, pins_of, frame_at, has_number, listed, unlisted}
 use Rattle.pool_state.specs.Moved.{since_after, still_names}
 use Rattle.pool_state.specs.Naming.{names}
+use Rattle.pool_state.specs.Pages.{has_page}
 use Rattle.pool_state.specs.Queue.{is_among, is_one_of, is_paged, pages_queued, pair_cmp, stays, tickets_at, waits_at, want_at}
 use Rattle.pool_state.specs.declared.rows.Row.{Row}
 use Rattle.pool_state.specs.declared.rows.Row.TheVariants.{Nothing, One, Two, Many}
@@ -40,6 +41,10 @@ recounted_same = refl
 -- it stays within its type
 pub recounted_greatest : recounted (2 ^ 64 - 1) false true ≡ 2 ^ 64 - 1
 recounted_greatest = refl
+
+-- Pages in no certain order.
+pub has_page_each : map (has_page (3 ∷ 1 ∷ [])) (1 ∷ 2 ∷ 3 ∷ []) ≡ true ∷ false ∷ true ∷ []
+has_page_each = refl
 
 -- Names: frame 0 pins the pages 1 and 3 by name, and frame 2 page 3, and all that was there at count 7.
 abbrev hold : Option ℕ → List ℕ → Hold

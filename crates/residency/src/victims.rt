@@ -11,7 +11,7 @@ ghost use Rattle.pool_state.specs.Shown.{shown};
 ghost use Rattle.pool_rules.specs.Victim.{named_of, is_evictable, victim_for};
 
 use crate::accounts::Account;
-use pool_leaves::after;
+use pool_leaves::first_uncovered;
 use pool_state::{Plan, Standing};
 use std::cmp::Reverse;
 
@@ -110,7 +110,7 @@ pub fn victim_for(layout: &Plan, account: &Account, page: u32) -> Option<u32>
         Ranks layout.now frames account.now.standing account.now.leaves →
         result ≡ victim_for layout.now (shown account.now.standing frames) page }
 {
-    let start = after(account.standing.frames.last_moment());
+    let start = first_uncovered(account.standing.frames.last_moment());
     let recent = first_recent(layout, account, page, start);
     let (_, victim) = staler(recent, last_ordered(layout, account, page, start))?;
     Some(victim)

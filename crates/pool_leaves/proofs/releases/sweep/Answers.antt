@@ -10,7 +10,7 @@ loop-place-init c = record {
   wider = λ n p has. has;
   swept = λ count page small has uncovered apart.
       let all = c.into_iter-place-iterator.ensures.into_iter_gives ∙ c.range-place-items.ensures.between tt in
-      inr (ap (λ places. stands_in places count page) all ∙ stands-from c.args.parked.now _ count page small (c.after.ensures count uncovered) has);
+      inr (ap (λ places. stands_in places count page) all ∙ stands-from c.args.parked.now _ count page small (c.first_uncovered.ensures count uncovered) has);
 }
 
 pub loop-place-preserved : goal.loop-place-preserved

@@ -11,8 +11,8 @@ returns-in_err-victim c = λ entries frames agrees ranked.
     let s = shown x frames in
     let layout = c.args.layout.now in
     let leaves = c.args.account.now.leaves in
-    let start = c.after-start.result in
-    let listed = HasEvictable-from entries layout frames x leaves c.args.page start c.last_moment.result agrees ranked c.last_moment.ensures.some c.after-start.ensures in
+    let start = c.first_uncovered-start.result in
+    let listed = HasEvictable-from entries layout frames x leaves c.args.page start c.last_moment.result agrees ranked c.last_moment.ensures.some c.first_uncovered-start.ensures in
     let stalest = c.staler.ensures layout s c.args.page start (is_recent leaves.recent) (ranks leaves.order) (c.first_recent-recent.ensures entries frames agrees ranked) (c.last_ordered.ensures entries frames agrees ranked) in
     c.from_residual.ensures ∙ (sym (ap page_in c.in_err-victim.was) ∙ victim-stalest layout s c.args.page start (either (is_recent leaves.recent) (ranks leaves.order)) c.staler.result ranked.places.flag_a_page listed stalest)
 
@@ -22,7 +22,7 @@ returns c = λ entries frames agrees ranked.
     let s = shown x frames in
     let layout = c.args.layout.now in
     let leaves = c.args.account.now.leaves in
-    let start = c.after-start.result in
-    let listed = HasEvictable-from entries layout frames x leaves c.args.page start c.last_moment.result agrees ranked c.last_moment.ensures.some c.after-start.ensures in
+    let start = c.first_uncovered-start.result in
+    let listed = HasEvictable-from entries layout frames x leaves c.args.page start c.last_moment.result agrees ranked c.last_moment.ensures.some c.first_uncovered-start.ensures in
     let stalest = c.staler.ensures layout s c.args.page start (is_recent leaves.recent) (ranks leaves.order) (c.first_recent-recent.ensures entries frames agrees ranked) (c.last_ordered.ensures entries frames agrees ranked) in
     sym (ap page_in c.in_ok-victim.was) ∙ victim-stalest layout s c.args.page start (either (is_recent leaves.recent) (ranks leaves.order)) c.staler.result ranked.places.flag_a_page listed stalest
