@@ -1,4 +1,4 @@
-ghost use Rattle.std.specs.Prelude.{◌≡◌, [], ◌+◌, ◌-◌, ◌<◌, ◌^◌, ℕ, Bool, IfOk, OnOk, count_by, length, min, nat_eq, slice_index_or, true, List};
+ghost use Rattle.std.specs.Prelude.{◌≡◌, [], ◌-◌, ◌<◌, ℕ, Bool, IfOk, OnOk, length, true, List};
 ghost use Rattle.journal.specs.declared.entries.Entry.{Entry};
 ghost use Rattle.journal.specs.declared.layouts.Layout.{Layout};
 ghost use Rattle.pool_rules.specs.Frame.{Frame};
@@ -13,7 +13,7 @@ ghost use Rattle.pool_rules.specs.Victim.{is_stood_on};
 use crate::recents::Recents;
 use geom_core::Memory;
 use journal::What;
-use pool_state::{Plan, Standing, count_at, lower, raise, zeros};
+use pool_state::{Plan, Standing, count_at, lower_each, raise_each, zeros};
 use std::alloc::Global;
 use std::cmp::Reverse;
 use std::collections::BTreeSet;
@@ -66,28 +66,6 @@ pub fn is_in(places: &BTreeSet<(Reverse<u64>, u32)>, count: u64, page: u32) -> b
     ensures { result ≡ ranks places.now count page }
 {
     places.contains(&(Reverse(count), page))
-}
-
-/// Counts one more at each of the pages.
-fn raise_all(counts: &mut [u64], pages: &[u32])
-    ensures len { length counts.new ≡ length counts.old }
-    ensures counts { (p : ℕ) → p < length counts.old → slice_index_or counts.new p 0
-        ≡ min (slice_index_or counts.old p 0 + count_by (λ q. nat_eq q p) pages.now) (2 ^ 64 - 1) }
-{
-    for page in pages {
-        raise(counts, *page);
-    }
-}
-
-/// Counts one less at each of the pages.
-fn lower_all(counts: &mut [u64], pages: &[u32])
-    ensures len { length counts.new ≡ length counts.old }
-    ensures counts { (p : ℕ) → p < length counts.old → slice_index_or counts.new p 0
-        ≡ slice_index_or counts.old p 0 - count_by (λ q. nat_eq q p) pages.now }
-{
-    for page in pages {
-        lower(counts, *page);
-    }
 }
 
 /// Whether the page is a leaf, by how many pages stand on each.
@@ -155,7 +133,7 @@ impl Leaves {
         ensures order { self.new.order ≡ self.old.order }
         ensures parked { self.new.parked ≡ self.old.parked }
     {
-        raise_all(&mut self.lowers, layout.uppers_of(page));
+        raise_each(&mut self.lowers, layout.uppers_of(page));
     }
 
     /// Counts a page that was resident or being loaded until now no more at its uppers.
@@ -167,7 +145,7 @@ impl Leaves {
         ensures order { self.new.order ≡ self.old.order }
         ensures parked { self.new.parked ≡ self.old.parked }
     {
-        lower_all(&mut self.lowers, layout.uppers_of(page));
+        lower_each(&mut self.lowers, layout.uppers_of(page));
     }
 
     /// Counts as the pages are that are resident or being loaded after the entry.

@@ -1,4 +1,4 @@
-ghost use Rattle.std.specs.Prelude.{◌≡◌, ◌+◌, ◌-◌, ◌<◌, ◌^◌, ℕ, IfOk, length, min, nat_eq, replicate, slice_index_or, slice_set};
+ghost use Rattle.std.specs.Prelude.{◌≡◌, ◌+◌, ◌-◌, ◌<◌, ◌^◌, ℕ, IfOk, count_by, length, min, nat_eq, replicate, slice_index_or, slice_set};
 ghost use Rattle.pool_state.specs.Holding.{one};
 ghost use Rattle.pool_rules.specs.State.{name_at};
 
@@ -56,5 +56,27 @@ pub fn lower(counts: &mut [u64], page: u32)
 {
     if (page as usize) < counts.len() {
         counts[page as usize] = counts[page as usize].saturating_sub(1);
+    }
+}
+
+/// Counts one more at each of the pages, as often as it stands there.
+pub fn raise_each(counts: &mut [u64], pages: &[u32])
+    ensures len { length counts.new ≡ length counts.old }
+    ensures counts { (p : ℕ) → p < length counts.old → slice_index_or counts.new p 0
+        ≡ min (slice_index_or counts.old p 0 + count_by (λ q. nat_eq q p) pages.now) (2 ^ 64 - 1) }
+{
+    for page in pages {
+        raise(counts, *page);
+    }
+}
+
+/// Counts one less at each of the pages, as often as it stands there.
+pub fn lower_each(counts: &mut [u64], pages: &[u32])
+    ensures len { length counts.new ≡ length counts.old }
+    ensures counts { (p : ℕ) → p < length counts.old → slice_index_or counts.new p 0
+        ≡ slice_index_or counts.old p 0 - count_by (λ q. nat_eq q p) pages.now }
+{
+    for page in pages {
+        lower(counts, *page);
     }
 }

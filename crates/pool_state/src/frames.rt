@@ -1,4 +1,4 @@
-ghost use Rattle.std.specs.Prelude.{◌≡◌, ◌≢◌, ◌+◌, ◌-◌, ◌<◌, ◌≤◌, ◌^◌, ℕ, IfOk, IfSome, IsSome, IsTrue, OnOk, OnErr, OnSome, None, Some, true, false, length, min, nat_eq, count_by, slice_index_or, ◌⊎◌, cond, is_some};
+ghost use Rattle.std.specs.Prelude.{◌≡◌, ◌≢◌, ◌+◌, ◌-◌, ◌<◌, ◌≤◌, ◌^◌, ℕ, IfOk, IfSome, IsSome, OnOk, OnErr, None, Some, true, false, length, min, slice_index_or, ◌⊎◌, cond, is_some};
 ghost use Rattle.std.specs.BTreeMap.{get, is_at, Updates, IsUnchanged};
 ghost use Rattle.std.specs.BTreeSet as set;
 ghost use Rattle.std.specs.Ordering.{nat_cmp};
@@ -6,7 +6,7 @@ ghost use Rattle.pool_state.specs.Naming.{names};
 ghost use Rattle.pool_state.specs.Pages.{has_page};
 ghost use Rattle.pool_state.specs.Holding.{IsIndexed, NamesNone, NamesOne, moment_in, named_by, named_count, one, listed, unlisted};
 
-use crate::arrays::{count_at, lower, raise};
+use crate::arrays::{count_at, lower, lower_each, raise, raise_each};
 use crate::named_pages::NamedPages;
 use geom_core::Memory;
 use std::alloc::{AllocError, Global};
@@ -35,17 +35,6 @@ pub struct Frames {
     pub counts: Vec<u64>,
 }
 
-/// Counts one frame more for each of the pages.
-fn raise_listed(counts: &mut [u64], pages: &[u32])
-    ensures len { length counts.new ≡ length counts.old }
-    ensures counts { (p : ℕ) → p < length counts.old → slice_index_or counts.new p 0
-        ≡ min (slice_index_or counts.old p 0 + count_by (λ q. nat_eq q p) pages.now) (2 ^ 64 - 1) }
-{
-    for page in pages {
-        raise(counts, *page);
-    }
-}
-
 /// Counts one frame more at each of the pages.
 fn raise_set(counts: &mut [u64], pages: &BTreeSet<u32>)
     ensures len { length counts.new ≡ length counts.old }
@@ -64,19 +53,8 @@ fn raise_all(counts: &mut [u64], pages: &NamedPages)
         ≡ min (slice_index_or counts.old p 0 + one (has_page pages.now p)) (2 ^ 64 - 1) }
 {
     let (listed, installed) = pages.parts();
-    raise_listed(counts, listed);
+    raise_each(counts, listed);
     raise_set(counts, installed);
-}
-
-/// Counts one frame less for each of the pages.
-fn lower_listed(counts: &mut [u64], pages: &[u32])
-    ensures len { length counts.new ≡ length counts.old }
-    ensures counts { (p : ℕ) → p < length counts.old → slice_index_or counts.new p 0
-        ≡ slice_index_or counts.old p 0 - count_by (λ q. nat_eq q p) pages.now }
-{
-    for page in pages {
-        lower(counts, *page);
-    }
 }
 
 /// Counts one frame less at each of the pages.
@@ -97,7 +75,7 @@ fn lower_all(counts: &mut [u64], pages: &NamedPages)
         ≡ slice_index_or counts.old p 0 - one (has_page pages.now p) }
 {
     let (listed, installed) = pages.parts();
-    lower_listed(counts, listed);
+    lower_each(counts, listed);
     lower_set(counts, installed);
 }
 

@@ -15,7 +15,7 @@ mod rows;
 mod standings;
 mod wants;
 
-pub use arrays::{count_at, lower, raise, zeros};
+pub use arrays::{count_at, lower_each, raise_each, zeros};
 pub use frames::{Frames, Hold};
 pub use loaders::Loaders;
 pub use named_pages::NamedPages;

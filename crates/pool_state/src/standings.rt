@@ -1,4 +1,4 @@
-ghost use Rattle.std.specs.Prelude.{◌≡◌, ◌+◌, ◌≤◌, ◌<◌, ◌^◌, IfOk, List, length, Bool, false, slice_index_or, None, filter, replicate, [], ℕ};
+ghost use Rattle.std.specs.Prelude.{◌≡◌, ◌<◌, IfOk, List, false, None, filter, [], ℕ};
 ghost use Rattle.std.specs.List.{list_all};
 ghost use Rattle.pool_state.specs.Agreement.{Agrees};
 ghost use Rattle.pool_rules.specs.Frame.{Frame};

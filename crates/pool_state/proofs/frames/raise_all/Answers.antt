@@ -12,5 +12,5 @@ returns-clause-counts c = λ p below.
     let parts = c.parts.result in
     let listed : count_by (λ q. nat_eq q p) parts.0.now ≡ one (has_page parts.0.now p) = count-ascending 0 p parts.0.now c.parts.ensures.ascending in
     let both : one (has_page c.args.pages.now p) ≡ one (has_page parts.0.now p) + one (contains nat_cmp parts.1.now p) = ap one (c.parts.ensures.all p) ∙ one-apart (has_page parts.0.now p) (contains nat_cmp parts.1.now p) (c.parts.ensures.apart p) in
-    let here : p < length c.raise_listed.new.counts = omega (arith, below, c.raise_listed.ensures.len) in
-    omega (arith, c.raise_listed.ensures.counts p below, c.raise_set.ensures.counts p here, listed, both)
+    let here : p < length c.raise_each.new.counts = omega (arith, below, c.raise_each.ensures.len) in
+    omega (arith, c.raise_each.ensures.counts p below, c.raise_set.ensures.counts p here, listed, both)

@@ -6,8 +6,8 @@ use Rattle.pool_leaves.proofs.leaves.Leaves.end.Goals as goal
 pub returns-clause-lowers : goal.returns-clause-lowers
 returns-clause-lowers c = λ held held' bounds begins counts.
     let old = c.args.self.now.lowers in
-    let new = c.lower_all.new.counts in
+    let new = c.lower_each.new.counts in
     let was = c.deref_mut.ensures.value in
-    let len = c.lower_all.ensures.len ∙ ap length was in
+    let len = c.lower_each.ensures.len ∙ ap length was in
     rw (with_items_is old new (omega (arith, old.ok.0, len)))
-    (CountsLowers-less c.args.layout.now held held' c.args.page old.items new bounds begins len (λ p below. rw (was, c.uppers_of.ensures) at (c.lower_all.ensures.counts p (omega (arith, below, ap length was)))) counts)
+    (CountsLowers-less c.args.layout.now held held' c.args.page old.items new bounds begins len (λ p below. rw (was, c.uppers_of.ensures) at (c.lower_each.ensures.counts p (omega (arith, below, ap length was)))) counts)

@@ -1,6 +1,6 @@
 use Rattle.std.proofs.Common.{◌≡◌, drop, ℕ, ◌-◌, ◌<◌, length, slice_index_or, nat_eq}
 use Rattle.std.specs.List.{count_by}
-use Rattle.pool_leaves.proofs.leaves.lower_all.Given as goal
+use Rattle.pool_state.proofs.arrays.lower_each.Given as goal
 
 -- the counts so far, and one less for each of the pages left, are those of all
 abbrev pub invariant-loop-page : goal.invariant-loop-page

@@ -1,6 +1,6 @@
 use Rattle.std.proofs.Common.{◌≡◌, drop, ℕ, ◌+◌, ◌-◌, ◌<◌, ◌^◌, length, min, slice_index_or, nat_eq}
 use Rattle.std.specs.List.{count_by}
-use Rattle.pool_leaves.proofs.leaves.raise_all.Given as goal
+use Rattle.pool_state.proofs.arrays.raise_each.Given as goal
 
 -- the counts so far, and one more for each of the pages left, are those of all
 abbrev pub invariant-loop-page : goal.invariant-loop-page
