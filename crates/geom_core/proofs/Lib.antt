@@ -1,11 +1,13 @@
 pub mod Crossings
 pub mod DepthLaws
 pub mod Differences
+pub mod DistinctCorners
 pub mod DivisorLaws
 pub mod EdgeSumLaws
 pub mod Examples
 pub mod FloorLaws
 pub mod InterpolationLaws
+pub mod PointLaws
 pub mod Signs
 pub mod SizeLaws
 pub mod WindingLaws

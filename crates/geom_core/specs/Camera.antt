@@ -1,5 +1,6 @@
 -- A camera, and the spot on the screen where it sees a point.
-use Rattle.std.specs.Prelude.{ℕ, ◌-◌, ◌*◌, ◌/◌, ◌^◌, ℤ, pos, ◌+ℤ◌, ◌-ℤ◌, ◌*ℤ◌, int_lt, unsigned_abs, Option, Some, None, if◌then◌else◌}
+use Rattle.std.specs.Prelude.{ℕ, ◌*◌, ◌/◌, ℤ, pos, ◌+ℤ◌, ◌-ℤ◌, ◌*ℤ◌, int_lt, unsigned_abs, Option, Some, None, if◌then◌else◌}
+use Rattle.geom_core.specs.declared.limits.TheConstants.{MAX_DEPTH, SUBPIXELS}
 use Rattle.geom_core.specs.declared.points.Pt.{Pt}
 use Rattle.geom_core.specs.declared.screens.Spot.{Spot}
 use Rattle.geom_core.specs.declared.screens.Size.{Size}
@@ -29,18 +30,18 @@ along row eye p = row.x *ℤ (p.x -ℤ eye.x) +ℤ row.y *ℤ (p.y -ℤ eye.y) +
 
 -- the sixteenths of a pixel from the picture's middle at which an offset is seen at this depth
 unfoldable pub on_screen : ℕ → ℤ → ℤ → ℤ
-on_screen focal offset depth = floor_div (pos (16 * focal) *ℤ offset) depth
+on_screen focal offset depth = floor_div (pos (SUBPIXELS * focal) *ℤ offset) depth
 
--- the reversed depth: 2^30 - 1 at the near depth, falling towards 0
+-- the reversed depth: MAX_DEPTH at the near depth, falling towards 0
 unfoldable pub reversed_depth : ℕ → ℤ → ℕ
-reversed_depth near depth = near * (2 ^ 30 - 1) / unsigned_abs depth
+reversed_depth near depth = near * MAX_DEPTH / unsigned_abs depth
 
 -- Where the point is seen; nothing nearer than `near` is.
 unfoldable pub spot_of : View → Size → Pt → Option Spot
 spot_of view size p =
     let depth = along view.forward view.eye p in
     if int_lt depth (pos view.near) then None else Some (record {
-      x = pos (8 * size.width) +ℤ on_screen view.focal (along view.right view.eye p) depth;
-      y = pos (8 * size.height) +ℤ on_screen view.focal (along view.down view.eye p) depth;
+      x = pos (SUBPIXELS / 2 * size.width) +ℤ on_screen view.focal (along view.right view.eye p) depth;
+      y = pos (SUBPIXELS / 2 * size.height) +ℤ on_screen view.focal (along view.down view.eye p) depth;
       z = reversed_depth view.near depth;
     })

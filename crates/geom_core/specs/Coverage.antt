@@ -1,15 +1,12 @@
 -- The pixels that a triangle covers, and the word that it draws at each.
-use Rattle.std.specs.Prelude.{Bool, not, ℕ, ◌+◌, ◌*◌, ◌/◌, ◌%◌, ◌^◌, ℤ, pos, List, map, filter, ◌<◌, ◌≤◌}
+use Rattle.std.specs.Prelude.{Bool, not, ℕ, ◌+◌, ◌*◌, ◌/◌, ◌%◌, ◌^◌, ℤ, pos, List, map, filter}
 use Rattle.std.specs.List.{range_with_len}
 use Rattle.std.specs.Ordering.{int_eq}
+use Rattle.geom_core.specs.declared.limits.TheConstants.{CLUSTER_BITS, TRIANGLE_BITS, SUBPIXELS}
 use Rattle.geom_core.specs.declared.screens.Spot.{Spot}
 use Rattle.geom_core.specs.declared.screens.Size.{Size}
 use Rattle.geom_core.specs.Winding.{winding}
 use Rattle.geom_core.specs.Depth.{depth}
-
--- a picture has 1 to 512 columns and rows
-abbrev pub IsPicture : Size → Type 0
-IsPicture size = (0 < size.width) × (size.width ≤ 512) × (0 < size.height) × (size.height ≤ 512)
 
 -- the pixels of a picture, row by row from the upper left corner
 abbrev pub pixels_of : Size → List ℕ
@@ -17,10 +14,10 @@ pixels_of size = range_with_len 0 (size.width * size.height)
 
 -- the centre of a pixel, in sixteenths: the pixel in column i of row j has the number j * width + i
 abbrev pub centre_x : Size → ℕ → ℤ
-centre_x size pixel = pos (16 * (pixel % size.width) + 8)
+centre_x size pixel = pos (SUBPIXELS * (pixel % size.width) + SUBPIXELS / 2)
 
 abbrev pub centre_y : Size → ℕ → ℤ
-centre_y size pixel = pos (16 * (pixel / size.width) + 8)
+centre_y size pixel = pos (SUBPIXELS * (pixel / size.width) + SUBPIXELS / 2)
 
 -- the triangle winds round the pixel's centre
 unfoldable pub covers : Spot → Spot → Spot → Size → ℕ → Bool
@@ -30,9 +27,9 @@ covers a b c size pixel = not (int_eq (winding a b c (centre_x size pixel) (cent
 abbrev pub covered : Spot → Spot → Spot → Size → List ℕ
 covered a b c size = filter (covers a b c size) (pixels_of size)
 
--- depth, cluster and triangle in 64 bits
+-- depth, cluster and triangle in 64 bits, the triangle's number in the lowest ones
 abbrev pub word_of : ℕ → ℕ → ℕ → ℕ
-word_of depth cluster tri = depth * 2 ^ 34 + cluster * 2 ^ 7 + tri
+word_of depth cluster tri = depth * 2 ^ (CLUSTER_BITS + TRIANGLE_BITS) + cluster * 2 ^ TRIANGLE_BITS + tri
 
 -- the triangle's word at a pixel
 unfoldable pub word_at : Spot → Spot → Spot → ℕ → ℕ → Size → ℕ → ℕ

@@ -5,6 +5,7 @@ pub mod Depth
 pub mod Distance
 pub mod EdgeSum
 pub mod Floor
+pub mod Limits
 pub mod Order
 pub mod Picture
 pub mod Winding

@@ -1,6 +1,7 @@
 -- The picture of a list of triangles: at each pixel the greatest word drawn there.
 use Rattle.std.specs.Prelude.{ℕ, ◌/◌, ◌%◌, ◌==◌, max, List, [], Option, Some, None, map, filter, flat_map, fold}
 use Rattle.std.specs.List.{enumerate_from}
+use Rattle.geom_core.specs.declared.limits.TheConstants.{TRIANGLES_PER_CLUSTER}
 use Rattle.geom_core.specs.declared.screens.Spot.{Spot}
 use Rattle.geom_core.specs.declared.screens.Size.{Size}
 use Rattle.geom_core.specs.declared.triangles.Tri.{Tri}
@@ -38,6 +39,6 @@ picture_of_words size draws = map (greatest_at draws) (pixels_of size)
 abbrev pub picture : View → Size → List Item → List ℕ
 picture view size items = picture_of_words size (flat_map (drawn view size) items)
 
--- a mesh without clusters: triangle k is place k mod 128 of cluster k div 128
+-- a mesh without clusters: they are cut from its triangles in their order
 abbrev pub items_of : List Tri → List Item
-items_of tris = map (λ (k, t). record { cluster = k / 128; place = k % 128; tri = t }) (enumerate_from 0 tris)
+items_of tris = map (λ (k, t). record { cluster = k / TRIANGLES_PER_CLUSTER; place = k % TRIANGLES_PER_CLUSTER; tri = t }) (enumerate_from 0 tris)

@@ -1,7 +1,8 @@
-//! The laws of edge sums, as functions without a body: each clause holds for every list of triangles.
+//! Laws of edge sums and limits, as functions without a body: each clause holds for all that it names.
 
-ghost use Rattle.std.specs.Prelude.{◌≡◌, ℤ, pos, ◌+ℤ◌, List, [], ◌∷◌, ◌++◌, neg_ℤ};
+ghost use Rattle.std.specs.Prelude.{◌≡◌, ◌^◌, ℤ, pos, ◌+ℤ◌, List, [], ◌∷◌, ◌++◌, neg_ℤ};
 ghost use Rattle.std.specs.List.Sorted.{IsPermutation};
+ghost use Rattle.geom_core.specs.declared.limits.TheConstants.{TRIANGLES_PER_CLUSTER, TRIANGLE_BITS};
 ghost use Rattle.geom_core.specs.declared.points.Pt.{Pt};
 ghost use Rattle.geom_core.specs.declared.triangles.Tri.{Tri};
 ghost use Rattle.geom_core.specs.EdgeSum.{edge_sum};
@@ -29,4 +30,9 @@ pub fn turned_edges_change_sign()
 pub fn moved_triangles_keep_edge_sums()
     ensures { (tris moved : List Tri) (u v : Pt) → IsPermutation tris moved →
         edge_sum moved u v ≡ edge_sum tris u v }
+{}
+
+/// The lowest `TRIANGLE_BITS` bits of a picture's word number the triangles of a cluster.
+pub fn triangle_bits_number_a_cluster()
+    ensures { 2 ^ TRIANGLE_BITS ≡ TRIANGLES_PER_CLUSTER }
 {}

@@ -5,11 +5,11 @@ pub struct Spot {
     pub x: i64,
     /// Sixteenths of a pixel from the picture's upper edge, growing downwards.
     pub y: i64,
-    /// Reversed depth, from 1 to 2^30 - 1: the greater, the nearer.
+    /// Reversed depth, from 1 to `MAX_DEPTH`: the greater, the nearer.
     pub z: u32,
 }
 
-/// The size of a picture, from 1 by 1 to 512 by 512.
+/// The size of a picture, in pixels, each side from 1 to `MAX_SIDE`.
 #[derive(Clone, Copy, Debug, PartialEq, Eq, PartialOrd, Ord)]
 pub struct Size {
     /// The number of columns.
