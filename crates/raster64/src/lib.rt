@@ -6,7 +6,7 @@
 #![tactic(auto)]
 
 mod depths;
-mod drawings;
+mod raster;
 mod edges;
 mod ranges;
 #[cfg(test)]

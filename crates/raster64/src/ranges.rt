@@ -1,10 +1,10 @@
 ghost use Rattle.std.specs.Prelude.{◌≡◌, ◌≤◌, ◌<◌, ◌+◌, ◌*◌, ℕ, pos, ◌<ℤ◌, ◌≤ℤ◌};
 ghost use Rattle.std.specs.Int.{int_min, int_max};
-ghost use Rattle.raster64.specs.Reach.{IsNear};
+ghost use Rattle.raster64.specs.Internal.Reach.{IsNear};
 
 /// The rows or columns whose centres lie within a triangle's box.
 #[derive(Clone, Copy)]
-pub(crate) struct Span {
+pub(crate) struct CentreRange {
     /// The first one.
     pub first: u32,
     /// The first one behind them.
@@ -14,7 +14,7 @@ pub(crate) struct Span {
 /// How many of the first `count` rows or columns have their centre before `edge`, in sixteenths.
 fn centres_before(edge: i64, count: u32) -> u32
     requires near { IsNear edge }
-    requires few { count ≤ 512 }
+    requires side_limit { count ≤ 512 }
     ensures most { result ≤ count }
     ensures before { (k : ℕ) → k < result → pos (16 * k + 8) <ℤ edge }
     ensures after { (k : ℕ) → result ≤ k → k < count → edge ≤ℤ pos (16 * k + 8) }
@@ -26,7 +26,7 @@ fn centres_before(edge: i64, count: u32) -> u32
 fn least(a: i64, b: i64, c: i64) -> i64
     requires { IsNear a × IsNear b × IsNear c }
     ensures near { IsNear result }
-    ensures value { result ≡ int_min a (int_min b c) }
+    ensures least { result ≡ int_min a (int_min b c) }
     ensures bound { (result ≤ℤ a) × (result ≤ℤ b) × (result ≤ℤ c) }
 {
     a.min(b.min(c))
@@ -36,7 +36,7 @@ fn least(a: i64, b: i64, c: i64) -> i64
 fn greatest(a: i64, b: i64, c: i64) -> i64
     requires { IsNear a × IsNear b × IsNear c }
     ensures near { IsNear result }
-    ensures value { result ≡ int_max a (int_max b c) }
+    ensures greatest { result ≡ int_max a (int_max b c) }
     ensures bound { (a ≤ℤ result) × (b ≤ℤ result) × (c ≤ℤ result) }
 {
     a.max(b.max(c))
@@ -44,9 +44,9 @@ fn greatest(a: i64, b: i64, c: i64) -> i64
 
 /// Which of the first `count` rows or columns have their centre from the least corner on and before the
 /// greatest; `a`, `b` and `c` are the corners, in sixteenths.
-pub(crate) fn span_of(a: i64, b: i64, c: i64, count: u32) -> Span
+pub(crate) fn centre_range(a: i64, b: i64, c: i64, count: u32) -> CentreRange
     requires near { IsNear a × IsNear b × IsNear c }
-    requires few { count ≤ 512 }
+    requires side_limit { count ≤ 512 }
     ensures order { result.first ≤ result.end }
     ensures most { result.end ≤ count }
     ensures before { (k : ℕ) → k < result.first
@@ -54,7 +54,7 @@ pub(crate) fn span_of(a: i64, b: i64, c: i64, count: u32) -> Span
     ensures after { (k : ℕ) → result.end ≤ k → k < count
         → (a ≤ℤ pos (16 * k + 8)) × (b ≤ℤ pos (16 * k + 8)) × (c ≤ℤ pos (16 * k + 8)) }
 {
-    Span {
+    CentreRange {
         first: centres_before(least(a, b, c), count),
         end: centres_before(greatest(a, b, c), count),
     }

@@ -1,6 +1,6 @@
 ghost use Rattle.std.specs.Prelude.{◌≡◌, ◌<◌, ◌^◌, take};
 ghost use Rattle.geom_core.specs.Coverage.{words_of};
-ghost use Rattle.raster64.specs.Reach.{InReach, IsSeen};
+ghost use Rattle.raster64.specs.Internal.Reach.{InReach, IsSeen};
 
 use crate::recorder::Recorder;
 use crate::{crossing, for_each_word, pack};

@@ -1,9 +1,9 @@
 ghost use Rattle.std.specs.Prelude.{◌≡◌, ◌<◌, ◌≤◌, ◌*◌, ◌^◌, ℕ, List, ◌++◌};
 ghost use Rattle.geom_core.specs.Coverage.{word_of, words_of};
-ghost use Rattle.raster64.specs.Reach.{InReach, IsSeen};
+ghost use Rattle.raster64.specs.Internal.Reach.{InReach, IsSeen};
 ghost use Rattle.geom_core.specs.Coverage.{IsPicture};
 
-use crate::drawings::{Drawing, draw};
+use crate::raster::{ScreenTriangle, draw};
 use crate::sinks::PixelSink;
 use geom_core::{Size, Spot};
 
@@ -38,12 +38,12 @@ pub fn for_each_word<T: PixelSink>(
     requires cluster_fits { cluster < 2 ^ 27 }
     requires tri_fits { tri < 2 ^ 7 }
     requires picture { IsPicture size }
-    requires room { size.width * size.height ≤ T.pixels to.old }
-    ensures pixels { T.pixels to.new ≡ T.pixels to.old }
+    requires sink_size { size.width * size.height ≤ T.pixels to.old }
+    ensures same_size { T.pixels to.new ≡ T.pixels to.old }
     ensures shown { (rest : T.Rest) (before : List (ℕ × ℕ)) → T.shows to.old rest before
         → T.shows to.new rest (before ++ words_of a b c cluster tri size) }
 {
-    let drawing = Drawing {
+    let triangle = ScreenTriangle {
         a,
         b,
         c,
@@ -51,5 +51,5 @@ pub fn for_each_word<T: PixelSink>(
         tri,
         size,
     };
-    draw(drawing, to);
+    draw(triangle, to);
 }

@@ -24,21 +24,21 @@ unfolding divisor
 floor_quotient-depth-requires-clause-nonzero c =
     let x = near c.args.x c.requires.near_x in
     let y = near c.args.y c.requires.near_y in
-    let by_a = edge c.edge-by_a.result c.edge-by_a.ensures.bound in
-    let by_b = edge c.edge-by_b.result c.edge-by_b.ensures.bound in
-    let by_c = edge c.edge-by_c.result c.edge-by_c.ensures.bound in
+    let by_a = edge c.edge_function-by_a.result c.edge_function-by_a.ensures.bound in
+    let by_b = edge c.edge_function-by_b.result c.edge_function-by_b.ensures.bound in
+    let by_c = edge c.edge_function-by_c.result c.edge_function-by_c.ensures.bound in
     let below = sum c.sum_of.result c.sum_of.ensures.bound in
     let e : c.sum_of.result ≡ divisor c.args.a c.args.b c.args.c c.args.x c.args.y = cc in
     λ zero. divisor_nonzero c.args.a c.args.b c.args.c c.args.x c.args.y c.requires.inside (sym e ∙ sym below ∙ zero)
 
-pub returns-clause-value : goal.returns-clause-value
+pub returns-clause-depth : goal.returns-clause-depth
 unfolding depth weighted divisor
-returns-clause-value c =
+returns-clause-depth c =
     let x = near c.args.x c.requires.near_x in
     let y = near c.args.y c.requires.near_y in
-    let by_a = edge c.edge-by_a.result c.edge-by_a.ensures.bound in
-    let by_b = edge c.edge-by_b.result c.edge-by_b.ensures.bound in
-    let by_c = edge c.edge-by_c.result c.edge-by_c.ensures.bound in
+    let by_a = edge c.edge_function-by_a.result c.edge_function-by_a.ensures.bound in
+    let by_b = edge c.edge_function-by_b.result c.edge_function-by_b.ensures.bound in
+    let by_c = edge c.edge_function-by_c.result c.edge_function-by_c.ensures.bound in
     let of_a = share c.weigh.result c.weigh.ensures.bound in
     let of_b = share c.weigh-2.result c.weigh-2.ensures.bound in
     let of_c = share c.weigh-3.result c.weigh-3.ensures.bound in

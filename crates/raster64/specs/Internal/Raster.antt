@@ -2,12 +2,12 @@
 use Rattle.std.specs.Prelude.{◌<◌, ◌^◌, Bool, ℕ, List, map, filter}
 use Rattle.std.specs.List.{range_with_len}
 use Rattle.geom_core.specs.Coverage.{covers, word_at}
-use Rattle.raster64.specs.declared.drawings.Drawing.{Drawing}
-use Rattle.raster64.specs.Reach.{InReach, IsSeen}
+use Rattle.raster64.specs.declared.raster.ScreenTriangle.{ScreenTriangle}
+use Rattle.raster64.specs.Internal.Reach.{InReach, IsSeen}
 use Rattle.geom_core.specs.Coverage.{IsPicture}
 
 -- what a triangle has to keep to be drawn
-pub record CanBeDrawn (d : Drawing) : Type 0 where
+pub record CanBeDrawn (d : ScreenTriangle) : Type 0 where
   pub reach : InReach d.a × InReach d.b × InReach d.c
   pub seen : IsSeen d.a × IsSeen d.b × IsSeen d.c
   pub cluster : d.cluster < 2 ^ 27
@@ -15,13 +15,13 @@ pub record CanBeDrawn (d : Drawing) : Type 0 where
   pub picture : IsPicture d.size
 
 -- the triangle covers the pixel
-abbrev pub is_covered : Drawing → ℕ → Bool
+abbrev pub is_covered : ScreenTriangle → ℕ → Bool
 is_covered d pixel = covers d.a d.b d.c d.size pixel
 
 -- the pixel, with the triangle's word there
-abbrev pub draw_at : Drawing → ℕ → ℕ × ℕ
+abbrev pub draw_at : ScreenTriangle → ℕ → ℕ × ℕ
 draw_at d pixel = (pixel, word_at d.a d.b d.c d.cluster d.tri d.size pixel)
 
 -- the covered pixels among `count` pixels from `first` on, ascending, each with its word
-unfoldable pub words_in : Drawing → ℕ → ℕ → List (ℕ × ℕ)
+unfoldable pub words_in : ScreenTriangle → ℕ → ℕ → List (ℕ × ℕ)
 words_in d first count = map (draw_at d) (filter (is_covered d) (range_with_len first count))

@@ -3,7 +3,7 @@ use Rattle.std.proofs.lemmas.Int.{ints, to_z-of_z}
 use Rattle.std.specs.Ordering.{int_eq}
 use Rattle.geom_core.specs.Winding.{winding}
 use Rattle.raster64.proofs.Bounds.{computed_add, within_add, held_by}
-use Rattle.raster64.proofs.edges.winds.Goals as goal
+use Rattle.raster64.proofs.edges.is_covered.Goals as goal
 
 same_test : (m n : ℕ) (a b : ℤ) → (m ≡ n → a ≡ b) → (a ≡ b → m ≡ n) → nat_eq m n ≡ int_eq a b
 same_test m n a b back forth = grind (arith, ints)

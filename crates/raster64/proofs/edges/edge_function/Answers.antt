@@ -3,7 +3,7 @@ use Rattle.std.proofs.lemmas.Int.{ints}
 use mir.Syntax.{w128}
 use Rattle.geom_core.specs.Winding.{edge_function}
 use Rattle.raster64.proofs.Bounds.{computed_sub, within_sub}
-use Rattle.raster64.proofs.edges.edge.Goals as goal
+use Rattle.raster64.proofs.edges.edge_function.Goals as goal
 
 near : (a b : ℤ) → unsigned_abs a ≤ 2 ^ 42 → unsigned_abs b ≤ 2 ^ 42 →
     to_z w64 (of_z w64 (to_z w64 (of_z w64 a) -ℤ to_z w64 (of_z w64 b))) ≡ a -ℤ b
@@ -18,9 +18,9 @@ overflow_sub-x c = let a = c.requires.from in let b = c.requires.near_x in omega
 pub overflow_sub-result : goal.overflow_sub-result
 overflow_sub-result c = omega (arith, ints)
 
-pub returns-clause-value : goal.returns-clause-value
+pub returns-clause-edge : goal.returns-clause-edge
 unfolding edge_function
-returns-clause-value c =
+returns-clause-edge c =
     let s = c.requires.from in
     let t = c.requires.to in
     let tx = near c.args.t.x c.args.s.x t.0 s.0 in

@@ -1,6 +1,6 @@
 use Rattle.std.proofs.Common.{◌≤◌, ◌<◌, ◌+◌, ◌*◌, ℕ, ℤ, pos, ◌<ℤ◌, ◌≤ℤ◌, arith}
 use Rattle.std.proofs.lemmas.Int.{ints}
-use Rattle.raster64.proofs.ranges.span_of.Goals as goal
+use Rattle.raster64.proofs.ranges.centre_range.Goals as goal
 
 -- a centre that isn't before the greatest corner isn't before the least one
 ordered : (first end count : ℕ) (least greatest a : ℤ) → first ≤ count → least ≤ℤ a → a ≤ℤ greatest →
