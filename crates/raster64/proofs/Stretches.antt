@@ -12,6 +12,7 @@ use Rattle.geom_core.specs.Depth.{depth}
 use Rattle.geom_core.specs.Coverage.{covers, word_of, word_at}
 use Rattle.geom_core.proofs.WindingLaws.{winding-above, winding-below, winding-left, winding-right}
 use Rattle.raster64.specs.declared.raster.ScreenTriangle.{ScreenTriangle}
+use Rattle.raster64.specs.Internal.Centres.{centre}
 use Rattle.raster64.specs.Internal.Raster.{is_covered, draw_at, words_in}
 
 range-append : (a m n : ℕ) → range_with_len a (m + n) ≡ range_with_len a m ++ range_with_len (a + m) n
@@ -59,24 +60,21 @@ words_in-longer d a m n h none =
 -- ---- the pixel in a column of a row
 
 pub is_covered-at : (d : ScreenTriangle) (row column : ℕ) → column < d.size.width →
-    is_covered d (row * d.size.width + column) ≡ not (int_eq (winding d.a d.b d.c (pos (16 * column + 8)) (pos (16 * row + 8))) (pos 0))
+    is_covered d (row * d.size.width + column) ≡ not (int_eq (winding d.a d.b d.c (centre column) (centre row)) (pos 0))
 unfolding covers
 is_covered-at d row column h = rw (mod-mul-add row d.size.width column h, div-mul-add row d.size.width column h) refl
 
 pub draw_at-at : (d : ScreenTriangle) (row column : ℕ) → column < d.size.width →
     draw_at d (row * d.size.width + column) ≡
-    (row * d.size.width + column, word_of (depth d.a d.b d.c (pos (16 * column + 8)) (pos (16 * row + 8))) d.cluster d.tri)
+    (row * d.size.width + column, word_of (depth d.a d.b d.c (centre column) (centre row)) d.cluster d.tri)
 unfolding word_at
 draw_at-at d row column h = rw (mod-mul-add row d.size.width column h, div-mul-add row d.size.width column h) refl
 
 -- ---- pixels outside the triangle's box
 
-missed : (d : ScreenTriangle) (row column : ℕ) → column < d.size.width → winding d.a d.b d.c (pos (16 * column + 8)) (pos (16 * row + 8)) ≡ pos 0 →
+missed : (d : ScreenTriangle) (row column : ℕ) → column < d.size.width → winding d.a d.b d.c (centre column) (centre row) ≡ pos 0 →
     is_covered d (row * d.size.width + column) ≡ false
 missed d row column h e = is_covered-at d row column h ∙ ap (λ w. not (int_eq w (pos 0))) e
-
-abbrev centre : ℕ → ℤ
-centre k = pos (16 * k + 8)
 
 -- all corners lie behind the centre, or none does
 abbrev Before : ℤ → ℤ → ℤ → ℤ → Type 0

@@ -1,2 +1,2 @@
+pub mod Centres
 pub mod Raster
-pub mod Reach

@@ -2,7 +2,8 @@ ghost use Rattle.std.specs.Prelude.{◌≡◌, ◌≢◌, ◌≤◌, ◌<◌, �
 ghost use Rattle.geom_core.specs.Winding.{winding};
 ghost use Rattle.geom_core.specs.Depth.{divisor, weighted, held, depth};
 ghost use Rattle.geom_core.specs.Floor.{floor_div};
-ghost use Rattle.raster64.specs.Internal.Reach.{IsNear, InReach, IsSeen};
+ghost use Rattle.geom_core.specs.Limits.{IsScreenCoordinate, IsSpot};
+ghost use Rattle.geom_core.specs.declared.limits.TheConstants.{MAX_DEPTH};
 
 use crate::edges::edge_function;
 use geom_core::Spot;
@@ -10,7 +11,7 @@ use geom_core::Spot;
 /// The depth of a corner, weighted by the edge function of the edge across from it.
 fn weigh(edge: i128, z: u32) -> i128
     requires bound { unsigned_abs edge ≤ 2 ^ 87 }
-    requires seen { z < 2 ^ 30 }
+    requires depth_limit { z ≤ MAX_DEPTH }
     ensures share { result ≡ edge *ℤ pos z }
     ensures bound { unsigned_abs result ≤ 2 ^ 117 }
 {
@@ -53,13 +54,12 @@ fn clamp_depth(least: u32, most: u32, z: i128) -> u32
 
 /// The depth of the triangle at a point that it winds round.
 pub(crate) fn depth_at(a: Spot, b: Spot, c: Spot, x: i64, y: i64) -> u32
-    requires reach { InReach a × InReach b × InReach c }
-    requires seen { IsSeen a × IsSeen b × IsSeen c }
-    requires near_x { IsNear x }
-    requires near_y { IsNear y }
+    requires spots { IsSpot a × IsSpot b × IsSpot c }
+    requires point_x { IsScreenCoordinate x }
+    requires point_y { IsScreenCoordinate y }
     requires inside { winding a b c x y ≢ pos 0 }
     ensures depth { result ≡ depth a b c x y }
-    ensures depth_limit { result < 2 ^ 30 }
+    ensures depth_limit { result ≤ MAX_DEPTH }
 {
     let by_a = edge_function(b, c, x, y);
     let by_b = edge_function(c, a, x, y);

@@ -6,6 +6,7 @@ use crate::edges::is_covered;
 use crate::ranges::{CentreRange, centre_range};
 use crate::sinks::PixelSink;
 use crate::words::pack;
+use geom_core::limits::SUBPIXELS;
 use geom_core::{Size, Spot};
 
 /// A triangle on the screen, the numbers that its words have, and the size of the picture.
@@ -43,8 +44,8 @@ fn draw_pixel<T: PixelSink>(triangle: ScreenTriangle, row: u32, column: u32, to:
         tri,
         size,
     } = triangle;
-    let x = i64::from(16 * column + 8);
-    let y = i64::from(16 * row + 8);
+    let x = i64::from(SUBPIXELS * column + SUBPIXELS / 2);
+    let y = i64::from(SUBPIXELS * row + SUBPIXELS / 2);
     if is_covered(a, b, c, x, y) {
         let word = pack(depth_at(a, b, c, x, y), cluster, tri);
         to.put(row * size.width + column, word);

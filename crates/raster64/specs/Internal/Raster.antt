@@ -1,17 +1,16 @@
 -- A triangle that is drawn, and the words of a stretch of pixels.
-use Rattle.std.specs.Prelude.{◌<◌, ◌^◌, Bool, ℕ, List, map, filter}
+use Rattle.std.specs.Prelude.{◌<◌, Bool, ℕ, List, map, filter}
 use Rattle.std.specs.List.{range_with_len}
 use Rattle.geom_core.specs.Coverage.{covers, word_at}
+use Rattle.geom_core.specs.Limits.{IsSpot, IsClusterNumber, IsPicture}
+use Rattle.geom_core.specs.declared.limits.TheConstants.{TRIANGLES_PER_CLUSTER}
 use Rattle.raster64.specs.declared.raster.ScreenTriangle.{ScreenTriangle}
-use Rattle.raster64.specs.Internal.Reach.{InReach, IsSeen}
-use Rattle.geom_core.specs.Coverage.{IsPicture}
 
 -- what a triangle has to keep to be drawn
 pub record CanBeDrawn (d : ScreenTriangle) : Type 0 where
-  pub reach : InReach d.a × InReach d.b × InReach d.c
-  pub seen : IsSeen d.a × IsSeen d.b × IsSeen d.c
-  pub cluster : d.cluster < 2 ^ 27
-  pub tri : d.tri < 2 ^ 7
+  pub spots : IsSpot d.a × IsSpot d.b × IsSpot d.c
+  pub cluster : IsClusterNumber d.cluster
+  pub tri : d.tri < TRIANGLES_PER_CLUSTER
   pub picture : IsPicture d.size
 
 -- the triangle covers the pixel
