@@ -1,6 +1,10 @@
 -- Sums and differences of bounded integers, and the words that hold them.
-use Rattle.std.proofs.Common.{◌≡◌, ℕ, ◌+◌, ◌≤◌, ◌<◌, ◌^◌, ℤ, ◌+ℤ◌, ◌-ℤ◌, to_z, of_z, w64, unsigned_abs, lit<, arith}
+use Rattle.std.proofs.Common.{◌≡◌, ℕ, ◌+◌, ◌≤◌, ◌<◌, ◌^◌, ℤ, ◌+ℤ◌, ◌-ℤ◌, to_z, of_z, w64, unsigned_abs, lit<, arith, rules}
 use Rattle.std.proofs.lemmas.Int.{ints, to_z-of_z, fits_signed_from_abs}
+use Rattle.geom_core.specs.Limits.{IsScreenCoordinate, IsSpot, IsPicture}
+use Rattle.geom_core.specs.declared.limits.TheConstants.{MAX_SIDE, MAX_DEPTH}
+use Rattle.geom_core.specs.declared.screens.Size.{Size}
+use Rattle.geom_core.specs.declared.screens.Spot.{Spot}
 use mir.Syntax.{Width}
 use mir.Val.{hbits}
 
@@ -14,9 +18,26 @@ within_add a b m n k p q r = omega (arith, ints)
 pub held_by : (w : Width) (z : ℤ) (n : ℕ) → unsigned_abs z ≤ n → n < 2 ^ hbits w → to_z w (of_z w z) ≡ z
 held_by w z n p q = to_z-of_z w z (fits_signed_from_abs w z (omega arith))
 
--- a near coordinate is held by 64 bits
-pub near_word : (z : ℤ) → unsigned_abs z ≤ 2 ^ 42 → to_z w64 (of_z w64 z) ≡ z
-near_word z h = held_by w64 z (2 ^ 42) h (lit< tt)
+-- a screen coordinate's distance from 0, and that 64 bits hold it
+pub screen_size : (z : ℤ) → IsScreenCoordinate z → unsigned_abs z ≤ 2 ^ 42
+screen_size z h = search rules
+
+pub screen_word : (z : ℤ) → IsScreenCoordinate z → to_z w64 (of_z w64 z) ≡ z
+screen_word z h = held_by w64 z (2 ^ 42) (screen_size z h) (lit< tt)
+
+-- the two coordinates of a spot
+pub spot_x : (s : Spot) → IsSpot s → IsScreenCoordinate s.x
+spot_x s h = search rules
+
+pub spot_y : (s : Spot) → IsSpot s → IsScreenCoordinate s.y
+spot_y s h = search rules
+
+pub spot_z : (s : Spot) → IsSpot s → s.z ≤ MAX_DEPTH
+spot_z s h = search rules
+
+-- the sides of a picture
+pub picture_sides : (size : Size) → IsPicture size → (0 < size.width) × (size.width ≤ MAX_SIDE) × (0 < size.height) × (size.height ≤ MAX_SIDE)
+picture_sides size h = search rules
 
 -- a difference and a sum as the code computes them
 pub computed_sub : (w : Width) (a b : ℤ) (n : ℕ) → unsigned_abs a ≤ n → unsigned_abs b ≤ n → n + n < 2 ^ hbits w →

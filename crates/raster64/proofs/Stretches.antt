@@ -11,8 +11,9 @@ use Rattle.geom_core.specs.Winding.{winding}
 use Rattle.geom_core.specs.Depth.{depth}
 use Rattle.geom_core.specs.Coverage.{covers, word_of, word_at}
 use Rattle.geom_core.proofs.WindingLaws.{winding-above, winding-below, winding-left, winding-right}
-use Rattle.raster64.specs.declared.drawings.Drawing.{Drawing}
-use Rattle.raster64.specs.Drawings.{is_covered, draw_at, words_in}
+use Rattle.raster64.specs.declared.raster.ScreenTriangle.{ScreenTriangle}
+use Rattle.raster64.specs.Internal.Centres.{centre}
+use Rattle.raster64.specs.Internal.Raster.{is_covered, draw_at, words_in}
 
 range-append : (a m n : ℕ) → range_with_len a (m + n) ≡ range_with_len a m ++ range_with_len (a + m) n
 range-append a zero n = rw (zero-add n) (ap (λ b. range_with_len b n) (omega arith))
@@ -28,28 +29,28 @@ filter-range_none p a (suc n) none =
     rw here (filter-range_none p (a + 1) n (λ k h. ap p (omega arith) ∙ none (k + 1) (omega arith)))
 
 -- the words of two stretches in a row
-pub words_in-append : (d : Drawing) (a m n : ℕ) → words_in d a (m + n) ≡ words_in d a m ++ words_in d (a + m) n
+pub words_in-append : (d : ScreenTriangle) (a m n : ℕ) → words_in d a (m + n) ≡ words_in d a m ++ words_in d (a + m) n
 unfolding words_in
 words_in-append d a m n =
     rw (range-append a m n, filter-append (is_covered d) (range_with_len a m) (range_with_len (a + m) n))
     (map-append (draw_at d) (filter (is_covered d) (range_with_len a m)) (filter (is_covered d) (range_with_len (a + m) n)))
 
 -- a stretch without a covered pixel
-pub words_in-none : (d : Drawing) (a n : ℕ) → ((k : ℕ) → k < n → is_covered d (a + k) ≡ false) → words_in d a n ≡ []
+pub words_in-none : (d : ScreenTriangle) (a n : ℕ) → ((k : ℕ) → k < n → is_covered d (a + k) ≡ false) → words_in d a n ≡ []
 unfolding words_in
 words_in-none d a n none = rw (filter-range_none (is_covered d) a n none) refl
 
 -- one pixel
-pub words_in-one : (d : Drawing) (a : ℕ) → is_covered d a ≡ true → words_in d a 1 ≡ draw_at d a ∷ []
+pub words_in-one : (d : ScreenTriangle) (a : ℕ) → is_covered d a ≡ true → words_in d a 1 ≡ draw_at d a ∷ []
 unfolding words_in
 words_in-one d a here = rw here refl
 
-pub words_in-one_missed : (d : Drawing) (a : ℕ) → is_covered d a ≡ false → words_in d a 1 ≡ []
+pub words_in-one_missed : (d : ScreenTriangle) (a : ℕ) → is_covered d a ≡ false → words_in d a 1 ≡ []
 unfolding words_in
 words_in-one_missed d a here = rw here refl
 
 -- a stretch and a longer one whose further pixels aren't covered
-pub words_in-longer : (d : Drawing) (a m n : ℕ) → m ≤ n → ((k : ℕ) → m ≤ k → k < n → is_covered d (a + k) ≡ false) → words_in d a n ≡ words_in d a m
+pub words_in-longer : (d : ScreenTriangle) (a m n : ℕ) → m ≤ n → ((k : ℕ) → m ≤ k → k < n → is_covered d (a + k) ≡ false) → words_in d a n ≡ words_in d a m
 words_in-longer d a m n h none =
     let e : n ≡ m + (n - m) = omega arith in
     ap (words_in d a) e ∙ words_in-append d a m (n - m) ∙
@@ -58,25 +59,22 @@ words_in-longer d a m n h none =
 
 -- ---- the pixel in a column of a row
 
-pub is_covered-at : (d : Drawing) (row column : ℕ) → column < d.size.width →
-    is_covered d (row * d.size.width + column) ≡ not (int_eq (winding d.a d.b d.c (pos (16 * column + 8)) (pos (16 * row + 8))) (pos 0))
+pub is_covered-at : (d : ScreenTriangle) (row column : ℕ) → column < d.size.width →
+    is_covered d (row * d.size.width + column) ≡ not (int_eq (winding d.a d.b d.c (centre column) (centre row)) (pos 0))
 unfolding covers
 is_covered-at d row column h = rw (mod-mul-add row d.size.width column h, div-mul-add row d.size.width column h) refl
 
-pub draw_at-at : (d : Drawing) (row column : ℕ) → column < d.size.width →
+pub draw_at-at : (d : ScreenTriangle) (row column : ℕ) → column < d.size.width →
     draw_at d (row * d.size.width + column) ≡
-    (row * d.size.width + column, word_of (depth d.a d.b d.c (pos (16 * column + 8)) (pos (16 * row + 8))) d.cluster d.tri)
+    (row * d.size.width + column, word_of (depth d.a d.b d.c (centre column) (centre row)) d.cluster d.tri)
 unfolding word_at
 draw_at-at d row column h = rw (mod-mul-add row d.size.width column h, div-mul-add row d.size.width column h) refl
 
 -- ---- pixels outside the triangle's box
 
-missed : (d : Drawing) (row column : ℕ) → column < d.size.width → winding d.a d.b d.c (pos (16 * column + 8)) (pos (16 * row + 8)) ≡ pos 0 →
+missed : (d : ScreenTriangle) (row column : ℕ) → column < d.size.width → winding d.a d.b d.c (centre column) (centre row) ≡ pos 0 →
     is_covered d (row * d.size.width + column) ≡ false
 missed d row column h e = is_covered-at d row column h ∙ ap (λ w. not (int_eq w (pos 0))) e
-
-abbrev centre : ℕ → ℤ
-centre k = pos (16 * k + 8)
 
 -- all corners lie behind the centre, or none does
 abbrev Before : ℤ → ℤ → ℤ → ℤ → Type 0
@@ -86,7 +84,7 @@ abbrev After : ℤ → ℤ → ℤ → ℤ → Type 0
 After at a b c = (a ≤ℤ at) × (b ≤ℤ at) × (c ≤ℤ at)
 
 -- no pixel of a row before the first column is covered
-pub words_in-left : (d : Drawing) (row first : ℕ) → first ≤ d.size.width →
+pub words_in-left : (d : ScreenTriangle) (row first : ℕ) → first ≤ d.size.width →
     ((k : ℕ) → k < first → Before (centre k) d.a.x d.b.x d.c.x) → words_in d (row * d.size.width) first ≡ []
 words_in-left d row first fits before =
     words_in-none d (row * d.size.width) first (λ k h.
@@ -94,7 +92,7 @@ words_in-left d row first fits before =
     missed d row k (omega arith) (winding-left d.a d.b d.c (centre k) (centre row) b.0 b.1 b.2))
 
 -- the words of a row are those of its columns before the end
-pub words_in-row : (d : Drawing) (row end : ℕ) → end ≤ d.size.width →
+pub words_in-row : (d : ScreenTriangle) (row end : ℕ) → end ≤ d.size.width →
     ((k : ℕ) → end ≤ k → k < d.size.width → After (centre k) d.a.x d.b.x d.c.x) →
     words_in d (row * d.size.width) d.size.width ≡ words_in d (row * d.size.width) end
 words_in-row d row end fits after =
@@ -103,13 +101,13 @@ words_in-row d row end fits after =
     missed d row k i (winding-right d.a d.b d.c (centre k) (centre row) a.0 a.1 a.2))
 
 -- a pixel by its number
-pixel_missed : (d : Drawing) (k : ℕ) → 0 < d.size.width →
+pixel_missed : (d : ScreenTriangle) (k : ℕ) → 0 < d.size.width →
     winding d.a d.b d.c (centre (k % d.size.width)) (centre (k / d.size.width)) ≡ pos 0 → is_covered d k ≡ false
 pixel_missed d k h e =
     ap (is_covered d) (sym (div-add-mod' k d.size.width)) ∙ missed d (k / d.size.width) (k % d.size.width) (omega arith) e
 
 -- no pixel of the rows before the first one is covered
-pub words_in-above : (d : Drawing) (first : ℕ) → 0 < d.size.width →
+pub words_in-above : (d : ScreenTriangle) (first : ℕ) → 0 < d.size.width →
     ((k : ℕ) → k < first → Before (centre k) d.a.y d.b.y d.c.y) → words_in d 0 (first * d.size.width) ≡ []
 words_in-above d first wide before =
     words_in-none d 0 (first * d.size.width) (λ k h.
@@ -118,7 +116,7 @@ words_in-above d first wide before =
     pixel_missed d k wide (winding-above d.a d.b d.c (centre (k % d.size.width)) (centre (k / d.size.width)) b.0 b.1 b.2))
 
 -- the words of the picture are those of the rows before the end
-pub words_in-picture : (d : Drawing) (end : ℕ) → 0 < d.size.width → end ≤ d.size.height →
+pub words_in-picture : (d : ScreenTriangle) (end : ℕ) → 0 < d.size.width → end ≤ d.size.height →
     ((k : ℕ) → end ≤ k → k < d.size.height → After (centre k) d.a.y d.b.y d.c.y) →
     words_in d 0 (d.size.width * d.size.height) ≡ words_in d 0 (end * d.size.width)
 words_in-picture d end wide fits after =

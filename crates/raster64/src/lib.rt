@@ -6,9 +6,9 @@
 #![tactic(auto)]
 
 mod depths;
-mod drawings;
 mod edges;
 mod ranges;
+mod raster;
 #[cfg(test)]
 mod recorder;
 mod sinks;

@@ -1,10 +1,14 @@
 ghost use Rattle.std.specs.Prelude.{◌≡◌, ◌≤◌, ◌<◌, ◌+◌, ◌*◌, ℕ, pos, ◌<ℤ◌, ◌≤ℤ◌};
 ghost use Rattle.std.specs.Int.{int_min, int_max};
-ghost use Rattle.raster64.specs.Reach.{IsNear};
+ghost use Rattle.geom_core.specs.Limits.{IsScreenCoordinate};
+ghost use Rattle.geom_core.specs.declared.limits.TheConstants.{MAX_SIDE};
+ghost use Rattle.raster64.specs.Internal.Centres.{centre};
+
+use geom_core::limits::SUBPIXELS;
 
 /// The rows or columns whose centres lie within a triangle's box.
 #[derive(Clone, Copy)]
-pub(crate) struct Span {
+pub(crate) struct CentreRange {
     /// The first one.
     pub first: u32,
     /// The first one behind them.
@@ -13,20 +17,20 @@ pub(crate) struct Span {
 
 /// How many of the first `count` rows or columns have their centre before `edge`, in sixteenths.
 fn centres_before(edge: i64, count: u32) -> u32
-    requires near { IsNear edge }
-    requires few { count ≤ 512 }
+    requires coordinate { IsScreenCoordinate edge }
+    requires side_limit { count ≤ MAX_SIDE }
     ensures most { result ≤ count }
-    ensures before { (k : ℕ) → k < result → pos (16 * k + 8) <ℤ edge }
-    ensures after { (k : ℕ) → result ≤ k → k < count → edge ≤ℤ pos (16 * k + 8) }
+    ensures before { (k : ℕ) → k < result → centre k <ℤ edge }
+    ensures after { (k : ℕ) → result ≤ k → k < count → edge ≤ℤ centre k }
 {
-    (edge.clamp(0, 16 * i64::from(count)) as u32 + 7) / 16
+    (edge.clamp(0, i64::from(SUBPIXELS * count)) as u32 + (SUBPIXELS / 2 - 1)) / SUBPIXELS
 }
 
 /// The least of three coordinates.
 fn least(a: i64, b: i64, c: i64) -> i64
-    requires { IsNear a × IsNear b × IsNear c }
-    ensures near { IsNear result }
-    ensures value { result ≡ int_min a (int_min b c) }
+    requires { IsScreenCoordinate a × IsScreenCoordinate b × IsScreenCoordinate c }
+    ensures coordinate { IsScreenCoordinate result }
+    ensures least { result ≡ int_min a (int_min b c) }
     ensures bound { (result ≤ℤ a) × (result ≤ℤ b) × (result ≤ℤ c) }
 {
     a.min(b.min(c))
@@ -34,9 +38,9 @@ fn least(a: i64, b: i64, c: i64) -> i64
 
 /// The greatest of three coordinates.
 fn greatest(a: i64, b: i64, c: i64) -> i64
-    requires { IsNear a × IsNear b × IsNear c }
-    ensures near { IsNear result }
-    ensures value { result ≡ int_max a (int_max b c) }
+    requires { IsScreenCoordinate a × IsScreenCoordinate b × IsScreenCoordinate c }
+    ensures coordinate { IsScreenCoordinate result }
+    ensures greatest { result ≡ int_max a (int_max b c) }
     ensures bound { (a ≤ℤ result) × (b ≤ℤ result) × (c ≤ℤ result) }
 {
     a.max(b.max(c))
@@ -44,17 +48,17 @@ fn greatest(a: i64, b: i64, c: i64) -> i64
 
 /// Which of the first `count` rows or columns have their centre from the least corner on and before the
 /// greatest; `a`, `b` and `c` are the corners, in sixteenths.
-pub(crate) fn span_of(a: i64, b: i64, c: i64, count: u32) -> Span
-    requires near { IsNear a × IsNear b × IsNear c }
-    requires few { count ≤ 512 }
+pub(crate) fn centre_range(a: i64, b: i64, c: i64, count: u32) -> CentreRange
+    requires coordinates { IsScreenCoordinate a × IsScreenCoordinate b × IsScreenCoordinate c }
+    requires side_limit { count ≤ MAX_SIDE }
     ensures order { result.first ≤ result.end }
     ensures most { result.end ≤ count }
     ensures before { (k : ℕ) → k < result.first
-        → (pos (16 * k + 8) <ℤ a) × (pos (16 * k + 8) <ℤ b) × (pos (16 * k + 8) <ℤ c) }
+        → (centre k <ℤ a) × (centre k <ℤ b) × (centre k <ℤ c) }
     ensures after { (k : ℕ) → result.end ≤ k → k < count
-        → (a ≤ℤ pos (16 * k + 8)) × (b ≤ℤ pos (16 * k + 8)) × (c ≤ℤ pos (16 * k + 8)) }
+        → (a ≤ℤ centre k) × (b ≤ℤ centre k) × (c ≤ℤ centre k) }
 {
-    Span {
+    CentreRange {
         first: centres_before(least(a, b, c), count),
         end: centres_before(greatest(a, b, c), count),
     }

@@ -1,3 +1,4 @@
+ghost use Rattle.geom_core.specs.declared.limits.TheConstants.{MAX_SIDE};
 ghost use Rattle.std.specs.Prelude.{◌≡◌, ◌≤◌, ◌*◌, length, take};
 
 use crate::sinks::PixelSink;
@@ -28,7 +29,7 @@ impl Recorder {
 impl PixelSink for Recorder {
     type Rest = ();
 
-    ghost pixels = { λ _. 512 * 512 };
+    ghost pixels = { λ _. MAX_SIDE * MAX_SIDE };
 
     ghost shows = { λ recorder _ puts. length puts ≤ 16
         → (recorder.count ≡ length puts) × (take recorder.count recorder.puts ≡ puts) };

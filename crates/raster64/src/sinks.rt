@@ -17,7 +17,7 @@ pub trait PixelSink {
     /// Draws a word at a pixel.
     fn put(&mut self, pixel: u32, word: u64)
         requires { pixel < pixels self.old }
-        ensures pixels { pixels self.new ≡ pixels self.old }
+        ensures same_size { pixels self.new ≡ pixels self.old }
         ensures shown { (rest : Self.Rest) (before : List (ℕ × ℕ)) → shows self.old rest before
             → shows self.new rest (before ++ (pixel, word) ∷ []) };
 }

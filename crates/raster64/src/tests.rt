@@ -1,9 +1,11 @@
-ghost use Rattle.std.specs.Prelude.{◌≡◌, ◌<◌, ◌^◌, take};
+ghost use Rattle.std.specs.Prelude.{◌≡◌, ◌<◌, ◌≤◌, ◌*◌, take};
 ghost use Rattle.geom_core.specs.Coverage.{words_of};
-ghost use Rattle.raster64.specs.Reach.{InReach, IsSeen};
+ghost use Rattle.geom_core.specs.Limits.{IsSpot, IsClusterNumber, IsPicture};
+ghost use Rattle.geom_core.specs.declared.limits.TheConstants.{TRIANGLES_PER_CLUSTER};
 
 use crate::recorder::Recorder;
 use crate::{crossing, for_each_word, pack};
+use geom_core::limits::{MAX_DEPTH, MAX_SCREEN_COORDINATE};
 use geom_core::{Size, Spot};
 
 const FOUR_BY_FOUR: Size = Size {
@@ -11,30 +13,35 @@ const FOUR_BY_FOUR: Size = Size {
     height: 4,
 };
 
+const THREE_BY_FIVE: Size = Size {
+    width: 3,
+    height: 5,
+};
+
 /// A spot of a table.
 fn spot(place: (i64, i64, u32)) -> Spot
-    ensures reach { InReach result }
-    ensures seen { IsSeen result }
+    ensures { IsSpot result }
 {
     let (x, y, z) = place;
-    let far = 1 << 42;
+    let far = MAX_SCREEN_COORDINATE as i64;
     Spot {
         x: x.clamp(-far, far),
         y: y.clamp(-far, far),
-        z: z.clamp(1, (1 << 30) - 1),
+        z: z.clamp(1, MAX_DEPTH),
     }
 }
 
-/// The puts of a triangle into a picture of 4 by 4 pixels.
-fn puts_of(a: Spot, b: Spot, c: Spot, cluster: u32, tri: u32) -> Recorder
-    requires reach { InReach a × InReach b × InReach c }
-    requires seen { IsSeen a × IsSeen b × IsSeen c }
-    requires cluster_fits { cluster < 2 ^ 27 }
-    requires tri_fits { tri < 2 ^ 7 }
-    ensures { take result.count result.puts ≡ words_of a b c cluster tri FOUR_BY_FOUR }
+/// The puts of a triangle into a picture of at most 16 pixels.
+fn puts_of(a: Spot, b: Spot, c: Spot, cluster: u32, tri: u32, size: Size) -> Recorder
+    requires spots { IsSpot a × IsSpot b × IsSpot c }
+    requires cluster_limit { IsClusterNumber cluster }
+    requires triangle_limit { tri < TRIANGLES_PER_CLUSTER }
+    requires picture { IsPicture size }
+    requires pixel_limit { size.width * size.height ≤ 16 }
+    ensures { take result.count result.puts ≡ words_of a b c cluster tri size }
 {
     let mut recorder = Recorder::new();
-    for_each_word(a, b, c, cluster, tri, FOUR_BY_FOUR, &mut recorder);
+    for_each_word(a, b, c, cluster, tri, size, &mut recorder);
     recorder
 }
 
@@ -97,7 +104,46 @@ fn puts_each_covered_pixel_ascending(rt: HostRuntime) {
         ),
     ];
     for (name, [a, b, c], cluster, tri, want) in cases {
-        let got = puts_of(spot(a), spot(b), spot(c), cluster % 8, tri % 8);
+        let got = puts_of(
+            spot(a),
+            spot(b),
+            spot(c),
+            cluster % 8,
+            tri % 8,
+            FOUR_BY_FOUR,
+        );
+        assert_eq!(rt; got.count, want.len(), "{name}");
+        for (at, put) in want.iter().enumerate() {
+            assert!(rt; at < 16 && got.puts[at] == *put, "{name}");
+        }
+    }
+}
+
+#[test]
+fn numbers_pixels_by_the_width(rt: HostRuntime) {
+    let upper_left = spot((0, 0, 1));
+    let upper_right = spot((48, 0, 1_073_741_823));
+    let lower_left = spot((0, 80, 536_870_912));
+    let want: &[(u32, u64)] = &[
+        (0, 0x3777_7778_0000_0081),
+        (1, 0x8ccc_cccc_0000_0081),
+        (2, 0xe222_221c_0000_0081),
+        (3, 0x5111_1110_0000_0081),
+        (4, 0xa666_6664_0000_0081),
+        (6, 0x6aaa_aaa8_0000_0081),
+        (9, 0x8444_4444_0000_0081),
+    ];
+    let windings = [
+        (
+            "clockwise",
+            puts_of(upper_left, upper_right, lower_left, 1, 1, THREE_BY_FIVE),
+        ),
+        (
+            "counter-clockwise",
+            puts_of(upper_left, lower_left, upper_right, 1, 1, THREE_BY_FIVE),
+        ),
+    ];
+    for (name, got) in windings {
         assert_eq!(rt; got.count, want.len(), "{name}");
         for (at, put) in want.iter().enumerate() {
             assert!(rt; at < 16 && got.puts[at] == *put, "{name}");
@@ -109,6 +155,7 @@ fn puts_each_covered_pixel_ascending(rt: HostRuntime) {
 fn packs_the_greatest_word(rt: HostRuntime) {
     assert_eq!(rt; pack((1 << 30) - 1, (1 << 27) - 1, 127), u64::MAX);
     assert_eq!(rt; pack(1, 2, 3), 0x4_0000_0103);
+    assert_eq!(rt; pack(0, 1, 1), 129);
 }
 
 #[test]

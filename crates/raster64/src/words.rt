@@ -1,23 +1,26 @@
 ghost use Rattle.std.specs.Prelude.{◌≡◌, ◌<◌, ◌≤◌, ◌*◌, ◌^◌, ℕ, List, ◌++◌};
 ghost use Rattle.geom_core.specs.Coverage.{word_of, words_of};
-ghost use Rattle.raster64.specs.Reach.{InReach, IsSeen};
-ghost use Rattle.geom_core.specs.Coverage.{IsPicture};
+ghost use Rattle.geom_core.specs.Limits.{IsSpot, IsClusterNumber, IsPicture};
+ghost use Rattle.geom_core.specs.declared.limits.TheConstants.{MAX_DEPTH, TRIANGLES_PER_CLUSTER};
 
-use crate::drawings::{Drawing, draw};
+use crate::raster::{ScreenTriangle, draw};
 use crate::sinks::PixelSink;
+use geom_core::limits::{CLUSTER_BITS, TRIANGLE_BITS};
 use geom_core::{Size, Spot};
 
 /// The word of one pixel. Of the words drawn at a pixel, the greatest is the one that is seen.
 ///
-/// `depth` falls from `2^30 - 1` at the near plane towards 0 (reversed depth), so the nearer wins; at
+/// `depth` falls from `MAX_DEPTH` at the near plane towards 0 (reversed depth), so the nearer wins; at
 /// equal depth the greater `cluster` wins, then the greater `tri`, the triangle's place in its cluster.
 pub fn pack(depth: u32, cluster: u32, tri: u32) -> u64
-    requires depth_fits { depth < 2 ^ 30 }
-    requires cluster_fits { cluster < 2 ^ 27 }
-    requires tri_fits { tri < 2 ^ 7 }
-    ensures { result ≡ word_of depth cluster tri }
+    requires depth_limit { depth ≤ MAX_DEPTH }
+    requires cluster_limit { IsClusterNumber cluster }
+    requires triangle_limit { tri < TRIANGLES_PER_CLUSTER }
+    ensures word { result ≡ word_of depth cluster tri }
 {
-    (u64::from(depth) << 34) + (u64::from(cluster) << 7) + u64::from(tri)
+    (u64::from(depth) << (CLUSTER_BITS + TRIANGLE_BITS))
+        + (u64::from(cluster) << TRIANGLE_BITS)
+        + u64::from(tri)
 }
 
 /// Draws a triangle: puts its word at each pixel whose centre it covers, ascending, each pixel once.
@@ -33,17 +36,16 @@ pub fn for_each_word<T: PixelSink>(
     size: Size,
     to: &mut T,
 )
-    requires reach { InReach a × InReach b × InReach c }
-    requires seen { IsSeen a × IsSeen b × IsSeen c }
-    requires cluster_fits { cluster < 2 ^ 27 }
-    requires tri_fits { tri < 2 ^ 7 }
+    requires spots { IsSpot a × IsSpot b × IsSpot c }
+    requires cluster_limit { IsClusterNumber cluster }
+    requires triangle_limit { tri < TRIANGLES_PER_CLUSTER }
     requires picture { IsPicture size }
-    requires room { size.width * size.height ≤ T.pixels to.old }
-    ensures pixels { T.pixels to.new ≡ T.pixels to.old }
+    requires sink_size { size.width * size.height ≤ T.pixels to.old }
+    ensures same_size { T.pixels to.new ≡ T.pixels to.old }
     ensures shown { (rest : T.Rest) (before : List (ℕ × ℕ)) → T.shows to.old rest before
         → T.shows to.new rest (before ++ words_of a b c cluster tri size) }
 {
-    let drawing = Drawing {
+    let triangle = ScreenTriangle {
         a,
         b,
         c,
@@ -51,5 +53,5 @@ pub fn for_each_word<T: PixelSink>(
         tri,
         size,
     };
-    draw(drawing, to);
+    draw(triangle, to);
 }

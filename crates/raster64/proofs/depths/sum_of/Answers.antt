@@ -21,8 +21,8 @@ overflow_add-result-2 c =
     let f = held_by w128 c.args.by_c (2 ^ 117) c.requires.c (lit< tt) in
     rw (e, f) (fits_signed_from_abs w128 _ (omega (arith, bound c.args.by_a c.args.by_b c.args.by_c c.requires.a c.requires.b c.requires.c)))
 
-pub returns-clause-value : goal.returns-clause-value
-returns-clause-value c = computed c.args.by_a c.args.by_b c.args.by_c c.requires.a c.requires.b c.requires.c
+pub returns-clause-sum : goal.returns-clause-sum
+returns-clause-sum c = computed c.args.by_a c.args.by_b c.args.by_c c.requires.a c.requires.b c.requires.c
 
 pub returns-clause-bound : goal.returns-clause-bound
 returns-clause-bound c =

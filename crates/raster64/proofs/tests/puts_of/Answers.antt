@@ -6,7 +6,6 @@ use Rattle.std.proofs.lemmas.List.Sums.{length-filter, count_by-le-length}
 use Rattle.geom_core.specs.declared.screens.Spot.{Spot}
 use Rattle.geom_core.specs.declared.screens.Size.{Size}
 use Rattle.geom_core.specs.Coverage.{words_of}
-use Rattle.raster64.specs.declared.tests.TheConstants.{FOUR_BY_FOUR}
 use Rattle.raster64.proofs.tests.puts_of.Goals as goal
 
 few : (f : ℕ → ℕ × ℕ) (p : ℕ → Bool) (n : ℕ) → length (map f (filter p (range_with_len 0 n))) ≤ n
@@ -19,5 +18,5 @@ few_words a b c cluster tri size = few _ _ (size.width * size.height)
 pub returns : goal.returns
 returns c =
     let empty = ap (λ n. take n c.new-recorder.result.puts) c.new-recorder.ensures in
-    let fits = few_words c.args.a c.args.b c.args.c c.args.cluster c.args.tri FOUR_BY_FOUR in
-    (c.for_each_word.ensures.shown tt [] (λ _. (c.new-recorder.ensures, empty)) fits).1
+    let fits = few_words c.args.a c.args.b c.args.c c.args.cluster c.args.tri c.args.size in
+    (c.for_each_word.ensures.shown tt [] (λ _. (c.new-recorder.ensures, empty)) (omega (arith, c.requires.pixel_limit))).1

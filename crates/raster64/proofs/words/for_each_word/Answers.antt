@@ -1,4 +1,4 @@
-use Rattle.raster64.specs.Drawings.{words_in}
+use Rattle.raster64.specs.Internal.Raster.{words_in}
 use Rattle.raster64.proofs.words.for_each_word.Goals as goal
 
 pub returns-clause-shown : goal.returns-clause-shown

@@ -1,10 +1,10 @@
 use Rattle.std.proofs.Common.{◌≡◌, ◌*◌, ℕ, List, ◌++◌}
-use Rattle.raster64.specs.Drawings.{words_in}
-use Rattle.raster64.proofs.drawings.draw.Given as goal
+use Rattle.raster64.specs.Internal.Raster.{words_in}
+use Rattle.raster64.proofs.raster.draw.Given as goal
 
 -- the sink shows the words of the rows so far
 abbrev pub invariant-rows : goal.invariant-rows
 invariant-rows g l =
     (g.T.PixelSink.pixels l.to ≡ g.T.PixelSink.pixels l.fn.to) ×
     ((rest : g.row.T-Rest.Denot) (before : List (ℕ × ℕ)) → g.T.PixelSink.shows l.fn.to rest before →
-    g.T.PixelSink.shows l.to rest (before ++ words_in l.drawing 0 (l.row * l.drawing.size.width)))
+    g.T.PixelSink.shows l.to rest (before ++ words_in l.triangle 0 (l.row * l.triangle.size.width)))

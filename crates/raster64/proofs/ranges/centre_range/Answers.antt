@@ -1,10 +1,11 @@
 use Rattle.std.proofs.Common.{◌≤◌, ◌<◌, ◌+◌, ◌*◌, ℕ, ℤ, pos, ◌<ℤ◌, ◌≤ℤ◌, arith}
 use Rattle.std.proofs.lemmas.Int.{ints}
-use Rattle.raster64.proofs.ranges.span_of.Goals as goal
+use Rattle.raster64.specs.Internal.Centres.{centre}
+use Rattle.raster64.proofs.ranges.centre_range.Goals as goal
 
 -- a centre that isn't before the greatest corner isn't before the least one
 ordered : (first end count : ℕ) (least greatest a : ℤ) → first ≤ count → least ≤ℤ a → a ≤ℤ greatest →
-    (end < first → pos (16 * end + 8) <ℤ least) → (end < count → greatest ≤ℤ pos (16 * end + 8)) → first ≤ end
+    (end < first → centre end <ℤ least) → (end < count → greatest ≤ℤ centre end) → first ≤ end
 ordered first end count least greatest a h i j before after = grind (arith, ints)
 
 pub returns-clause-order : goal.returns-clause-order

@@ -2,8 +2,8 @@ use Rattle.std.proofs.Common.{◌≡◌, ◌≤◌, ◌^◌, ℕ, ℤ, pos, ◌+
 use Rattle.std.proofs.lemmas.Int.{ints, to_z-of_z}
 use Rattle.std.specs.Ordering.{int_eq}
 use Rattle.geom_core.specs.Winding.{winding}
-use Rattle.raster64.proofs.Bounds.{computed_add, within_add, held_by}
-use Rattle.raster64.proofs.edges.winds.Goals as goal
+use Rattle.raster64.proofs.Bounds.{computed_add, within_add, held_by, screen_word}
+use Rattle.raster64.proofs.edges.is_covered.Goals as goal
 
 same_test : (m n : ℕ) (a b : ℤ) → (m ≡ n → a ≡ b) → (a ≡ b → m ≡ n) → nat_eq m n ≡ int_eq a b
 same_test m n a b back forth = grind (arith, ints)
@@ -32,7 +32,7 @@ returns c =
     let all = within_add (one +ℤ two) three 2 1 3 both c.crossing-3.ensures.unit (omega arith) in
     let e = computed_add w32 one two 1 c.crossing.ensures.unit c.crossing-2.ensures.unit (lit< tt) in
     let f = held_by w32 three 1 c.crossing-3.ensures.unit (lit< tt) in
-    let x = held_by w64 c.args.x (2 ^ 42) c.requires.near_x (lit< tt) in
-    let y = held_by w64 c.args.y (2 ^ 42) c.requires.near_y (lit< tt) in
+    let x = screen_word c.args.x c.requires.point_x in
+    let y = screen_word c.args.y c.requires.point_y in
     let z = zero_bits (one +ℤ two +ℤ three) all in
     rw (e, f, z) cc

@@ -2,13 +2,13 @@ use Rattle.std.proofs.Common.{◌≡◌, ◌+◌, ◌*◌, ◌∷◌, [], true, 
 use Rattle.std.proofs.lemmas.List.{append-nil}
 use Rattle.std.proofs.lemmas.Int.{to_z-of_z}
 use mir.Val.{SFits}
-use Rattle.raster64.specs.Drawings.{is_covered, words_in}
+use Rattle.raster64.specs.Internal.Raster.{is_covered, words_in}
 use Rattle.raster64.proofs.Stretches.{is_covered-at, draw_at-at, words_in-one, words_in-one_missed}
-use Rattle.raster64.proofs.drawings.draw_pixel.Goals as goal
+use Rattle.raster64.proofs.raster.draw_pixel.Goals as goal
 
-pub returns-then-winds-clause-shown : goal.returns-then-winds-clause-shown
-returns-then-winds-clause-shown g c rest before h =
-    let d = c.args.drawing in
+pub returns-then-is_covered-clause-shown : goal.returns-then-is_covered-clause-shown
+returns-then-is_covered-clause-shown g c rest before h =
+    let d = c.args.triangle in
     let p = c.args.row * d.size.width + c.args.column in
     let fits_x : SFits w64 c.from-x.result = record { sfits = c.from-x.type_inv } in
     let fits_y : SFits w64 c.from-y.result = record { sfits = c.from-y.type_inv } in
@@ -20,9 +20,9 @@ returns-then-winds-clause-shown g c rest before h =
     let e : words_in d p 1 ≡ (p, c.pack-word.result) ∷ [] = words_in-one d p covered ∙ cc in
     rw e (c.put.ensures.shown rest before h)
 
-pub returns-else-winds-clause-shown : goal.returns-else-winds-clause-shown
-returns-else-winds-clause-shown g c rest before h =
-    let d = c.args.drawing in
+pub returns-else-is_covered-clause-shown : goal.returns-else-is_covered-clause-shown
+returns-else-is_covered-clause-shown g c rest before h =
+    let d = c.args.triangle in
     let p = c.args.row * d.size.width + c.args.column in
     let fits_x : SFits w64 c.from-x.result = record { sfits = c.from-x.type_inv } in
     let fits_y : SFits w64 c.from-y.result = record { sfits = c.from-y.type_inv } in
