@@ -5,6 +5,7 @@ pub mod DistinctCorners
 pub mod DivisorLaws
 pub mod EdgeSumLaws
 pub mod Examples
+pub mod ExamplesCollapses
 pub mod FloorLaws
 pub mod InterpolationLaws
 pub mod PointLaws
