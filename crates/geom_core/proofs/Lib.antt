@@ -1,3 +1,4 @@
+pub mod CollapseLaws
 pub mod Crossings
 pub mod DepthLaws
 pub mod Differences
