@@ -1,3 +1,4 @@
+pub mod CollapseCorners
 pub mod CollapseLaws
 pub mod Crossings
 pub mod DepthLaws

@@ -1,14 +1,15 @@
 //! Laws of edge sums, collapses and limits, as functions without a body: each clause holds for all
 //! that it names.
 
-ghost use Rattle.std.specs.Prelude.{◌≡◌, ◌≢◌, ◌↔◌, ◌^◌, ℤ, pos, ◌+ℤ◌, neg_ℤ};
-ghost use Rattle.std.specs.Prelude.{List, [], ◌∷◌, ◌++◌, map, filter};
+ghost use Rattle.std.specs.Prelude.{◌≡◌, ◌≢◌, ◌⊎◌, ◌↔◌, ◌^◌, ℤ, pos, ◌+ℤ◌, neg_ℤ};
+ghost use Rattle.std.specs.Prelude.{List, [], ◌∷◌, ◌++◌, map, filter, All};
 ghost use Rattle.std.specs.List.Sorted.{IsPermutation};
 ghost use Rattle.geom_core.specs.declared.limits.TheConstants.{TRIANGLES_PER_CLUSTER, TRIANGLE_BITS};
 ghost use Rattle.geom_core.specs.declared.points.Pt.{Pt};
 ghost use Rattle.geom_core.specs.declared.triangles.Tri.{Tri};
 ghost use Rattle.geom_core.specs.EdgeSum.{edge_sum, is_rim_edge, OnRim};
-ghost use Rattle.geom_core.specs.Limits.{has_distinct_corners};
+ghost use Rattle.geom_core.specs.Limits.{has_distinct_corners, IsGridPoint, IsGridTriangle};
+ghost use Rattle.geom_core.specs.Corners.{IsCornerIn};
 ghost use Rattle.geom_core.specs.Collapses.{replaced, collapsed};
 
 /// The sum of a joined list is the sum of the two lists' sums.
@@ -36,8 +37,8 @@ pub fn moved_triangles_keep_edge_sums()
         edge_sum moved u v ≡ edge_sum tris u v }
 {}
 
-/// Replacing the point a by another point b leaves no sum at a. The sum between b and a third point is
-/// then the sum of the two that were between b, or a, and that point. All other sums stay.
+/// Replacing the point a by another point b leaves no sum at a. The sum between b and a third point
+/// is then the sum of the two that were between b, or a, and that point. All other sums stay.
 pub fn replacing_moves_edge_sums()
     ensures from_replaced { (a b v : Pt) (tris : List Tri) → a ≢ b →
         edge_sum (map (replaced a b) tris) a v ≡ pos 0 }
@@ -68,6 +69,23 @@ pub fn collapses_keep_edge_sums()
         is_rim_edge (collapsed a b tris) u v ≡ is_rim_edge tris u v }
     ensures rim_points { (a b p : Pt) (tris : List Tri) → (OnRim tris a → ⊥) →
         (OnRim (collapsed a b tris) p ↔ OnRim tris p) }
+{}
+
+/// A collapse of a to b adds no corner but b, and if they differ leaves none at a.
+pub fn collapses_move_one_corner()
+    ensures only_target { (a b p : Pt) (tris : List Tri) → IsCornerIn (collapsed a b tris) p →
+        (p ≡ b) ⊎ IsCornerIn tris p }
+    ensures replaced_corner { (a b : Pt) (tris : List Tri) → a ≢ b →
+        IsCornerIn (collapsed a b tris) a → ⊥ }
+{}
+
+/// Triangles of a mesh collapse to triangles of a mesh, if the target is a point of a mesh, as each
+/// corner of these triangles is.
+pub fn collapses_keep_grid_triangles()
+    ensures collapsed { (a b : Pt) (tris : List Tri) → IsGridPoint b → All IsGridTriangle tris →
+        All IsGridTriangle (collapsed a b tris) }
+    ensures corner { (p : Pt) (tris : List Tri) → IsCornerIn tris p → All IsGridTriangle tris →
+        IsGridPoint p }
 {}
 
 /// The lowest `TRIANGLE_BITS` bits of a picture's word number the triangles of a cluster.
