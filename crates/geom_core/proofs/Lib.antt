@@ -1,4 +1,5 @@
 pub mod CollapseCorners
+pub mod CollapseCounts
 pub mod CollapseLaws
 pub mod Crossings
 pub mod DepthLaws

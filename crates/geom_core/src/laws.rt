@@ -1,15 +1,16 @@
 //! Laws of edge sums, collapses and limits, as functions without a body: each clause holds for all
 //! that it names.
 
-ghost use Rattle.std.specs.Prelude.{◌≡◌, ◌≢◌, ◌⊎◌, ◌↔◌, ◌^◌, ℤ, pos, ◌+ℤ◌, neg_ℤ};
-ghost use Rattle.std.specs.Prelude.{List, [], ◌∷◌, ◌++◌, map, filter, All};
+ghost use Rattle.std.specs.Prelude.{◌≡◌, ◌≢◌, ◌<◌, ◌≤◌, ◌⊎◌, ◌↔◌, ◌&&◌, IsTrue, ◌^◌};
+ghost use Rattle.std.specs.Prelude.{ℤ, pos, ◌+ℤ◌, neg_ℤ};
+ghost use Rattle.std.specs.Prelude.{List, [], ◌∷◌, ◌++◌, length, map, filter, All, Any};
 ghost use Rattle.std.specs.List.Sorted.{IsPermutation};
 ghost use Rattle.geom_core.specs.declared.limits.TheConstants.{TRIANGLES_PER_CLUSTER, TRIANGLE_BITS};
 ghost use Rattle.geom_core.specs.declared.points.Pt.{Pt};
 ghost use Rattle.geom_core.specs.declared.triangles.Tri.{Tri};
 ghost use Rattle.geom_core.specs.EdgeSum.{edge_sum, is_rim_edge, OnRim};
 ghost use Rattle.geom_core.specs.Limits.{has_distinct_corners, IsGridPoint, IsGridTriangle};
-ghost use Rattle.geom_core.specs.Corners.{IsCornerIn};
+ghost use Rattle.geom_core.specs.Corners.{has_corner, IsCornerIn};
 ghost use Rattle.geom_core.specs.Collapses.{replaced, collapsed};
 
 /// The sum of a joined list is the sum of the two lists' sums.
@@ -77,6 +78,15 @@ pub fn collapses_move_one_corner()
         (p ≡ b) ⊎ IsCornerIn tris p }
     ensures replaced_corner { (a b : Pt) (tris : List Tri) → a ≢ b →
         IsCornerIn (collapsed a b tris) a → ⊥ }
+{}
+
+/// A collapse leaves no more triangles than there were, and fewer if some triangle has both points
+/// as corners, as along an edge.
+pub fn collapses_leave_fewer_triangles()
+    ensures at_most { (a b : Pt) (tris : List Tri) → length (collapsed a b tris) ≤ length tris }
+    ensures fewer { (a b : Pt) (tris : List Tri) → a ≢ b →
+        Any (λ t. IsTrue (has_corner a t && has_corner b t)) tris →
+        length (collapsed a b tris) < length tris }
 {}
 
 /// Triangles of a mesh collapse to triangles of a mesh, if the target is a point of a mesh, as each
