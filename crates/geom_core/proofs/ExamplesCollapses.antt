@@ -4,8 +4,12 @@ use Rattle.geom_core.specs.declared.points.Pt.{Pt}
 use Rattle.geom_core.specs.declared.triangles.Tri.{Tri}
 use Rattle.geom_core.specs.EdgeSum.{same_point, edges_of, edge_count, edge_sum, is_rim_edge}
 use Rattle.geom_core.specs.Limits.{has_distinct_corners}
-use Rattle.geom_core.specs.Corners.{has_corner}
+use Rattle.geom_core.specs.Corners.{has_corner, IsCornerIn}
 use Rattle.geom_core.specs.Collapses.{replaced_point, replaced, collapsed}
+use Rattle.std.proofs.Common.{sym, arith}
+use Rattle.std.proofs.lemmas.Bool.{true≢false}
+use Rattle.std.proofs.lemmas.List.Elements.{All-from_recursion}
+use Rattle.geom_core.proofs.CollapseCorners.{from_corner}
 
 abbrev point : ℤ → ℤ → Pt
 point x y = record { x = x; y = y; z = pos 0 }
@@ -61,6 +65,17 @@ has_corner-third = refl
 pub has_corner-none : has_corner r (tri p q middle) ≡ false
 unfolding has_corner same_point
 has_corner-none = refl
+
+-- some triangle has the corner, not each
+pub IsCornerIn-some : IsCornerIn (tri p q middle ∷ tri r s middle ∷ []) r
+unfolding has_corner same_point
+IsCornerIn-some = (1, tri r s middle, omega arith, refl, refl)
+
+pub IsCornerIn-none : IsCornerIn (tri p q middle ∷ tri q s middle ∷ []) r → ⊥
+unfolding has_corner same_point
+IsCornerIn-none = from_corner ⊥ r (tri p q middle ∷ tri q s middle ∷ [])
+    (All-from_recursion (λ t. has_corner r t ≡ true → ⊥) (tri p q middle ∷ tri q s middle ∷ [])
+    ((λ has. true≢false (sym has)), ((λ has. true≢false (sym has)), tt)))
 
 -- ---- replacing
 
