@@ -1,3 +1,6 @@
+pub mod CollapseCorners
+pub mod CollapseCounts
+pub mod CollapseLaws
 pub mod Crossings
 pub mod DepthLaws
 pub mod Differences
@@ -5,6 +8,7 @@ pub mod DistinctCorners
 pub mod DivisorLaws
 pub mod EdgeSumLaws
 pub mod Examples
+pub mod ExamplesCollapses
 pub mod FloorLaws
 pub mod InterpolationLaws
 pub mod PointLaws

@@ -26,7 +26,7 @@ same_point-is p q = all_tie (int_cmp p.x q.x) (int_cmp p.y q.y) (int_cmp p.z q.z
     all_tie Equal Greater c = grind rules
     all_tie Greater b c = grind rules
 
-int_eq-from : (m n : ℤ) → int_eq m n ≡ true → m ≡ n
+pub int_eq-from : (m n : ℤ) → int_eq m n ≡ true → m ≡ n
 int_eq-from m n same = grind (arith, ints)
 
 abbrev point : ℤ → ℤ → ℤ → Pt

@@ -1,5 +1,7 @@
 pub mod Boxes
 pub mod Camera
+pub mod Collapses
+pub mod Corners
 pub mod Coverage
 pub mod Depth
 pub mod Distance
