@@ -1,7 +1,7 @@
 use crate::points::Pt;
 
 /// An axis-aligned box, with its faces: the points from `lo` to `hi` on each axis.
-#[derive(Clone, Copy, Debug, PartialEq, Eq, PartialOrd, Ord)]
+#[derive(Clone, Copy, Debug, PartialEq, Eq)]
 pub struct Cube {
     /// The corner of least x, y and z.
     pub lo: Pt,
