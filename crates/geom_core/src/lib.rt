@@ -7,6 +7,7 @@
 
 mod boxes;
 mod digests;
+mod distances;
 pub mod laws;
 pub mod limits;
 mod lists;
@@ -20,6 +21,7 @@ mod windings;
 
 pub use boxes::Cube;
 pub use digests::Digest32;
+pub use distances::cheb;
 pub use lists::{Nums, Words};
 pub use out_of_memory::Memory;
 pub use points::{Pt, points_are_ordered};
