@@ -1,6 +1,8 @@
+pub mod BoxLaws
 pub mod Crossings
 pub mod DepthLaws
 pub mod Differences
+pub mod DistanceLaws
 pub mod DistinctCorners
 pub mod DivisorLaws
 pub mod EdgeSumLaws

@@ -5,6 +5,7 @@
 //! definitions in `proofs/`.
 #![tactic(auto)]
 
+pub mod box_laws;
 mod boxes;
 mod digests;
 mod distances;
