@@ -1,9 +1,11 @@
+pub mod BoxLaws
 pub mod CollapseCorners
 pub mod CollapseCounts
 pub mod CollapseLaws
 pub mod Crossings
 pub mod DepthLaws
 pub mod Differences
+pub mod DistanceLaws
 pub mod DistinctCorners
 pub mod DivisorLaws
 pub mod EdgeSumLaws

@@ -32,7 +32,7 @@ int_eq-from m n same = grind (arith, ints)
 abbrev point : ℤ → ℤ → ℤ → Pt
 point x y z = record { x = x; y = y; z = z }
 
-same_parts : (x y z i j k : ℤ) → x ≡ i → y ≡ j → z ≡ k → point x y z ≡ point i j k
+pub same_parts : (x y z i j k : ℤ) → x ≡ i → y ≡ j → z ≡ k → point x y z ≡ point i j k
 same_parts x y z i j k by_x by_y by_z = cc
 
 pub same_point-from : (p q : Pt) → same_point p q ≡ true → p ≡ q

@@ -10,4 +10,6 @@ pub mod Floor
 pub mod Limits
 pub mod Order
 pub mod Picture
+pub mod Shift
+pub mod TaggedLists
 pub mod Winding

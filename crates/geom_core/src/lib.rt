@@ -5,24 +5,29 @@
 //! definitions in `proofs/`.
 #![tactic(auto)]
 
+pub mod box_laws;
 mod boxes;
 mod digests;
+mod distances;
 pub mod laws;
 pub mod limits;
 mod lists;
 mod out_of_memory;
 mod points;
 mod screens;
+mod tagged_tris;
 mod triangles;
 mod views;
 mod windings;
 
 pub use boxes::Cube;
 pub use digests::Digest32;
+pub use distances::cheb;
 pub use lists::{Nums, Words};
 pub use out_of_memory::Memory;
 pub use points::{Pt, points_are_ordered};
 pub use screens::{Size, Spot};
+pub use tagged_tris::TaggedTris;
 pub use triangles::{Tagged, Tri};
 pub use views::Lens;
 pub use windings::divisor_is_not_zero;

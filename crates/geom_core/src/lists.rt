@@ -1,4 +1,6 @@
-ghost use Rattle.std.specs.Prelude.{◌≡◌, List, ℕ};
+ghost use Rattle.std.specs.Prelude.{◌≡◌, List, ℕ, nat_eq};
+ghost use Rattle.std.specs.Cmp.{partial_equiv_from_equiv};
+ghost use Rattle.std.specs.Cmp.Lexicographic.{pointwise, nat_list_eq_equiv};
 
 use std::marker::Model;
 
@@ -12,6 +14,20 @@ impl Model for Nums {
     ghost Value = { List ℕ };
 
     ghost view = { λ nums. nums.items.items };
+}
+
+impl PartialEq for Nums {
+    ghost eq = { pointwise nat_eq };
+
+    ghost laws = { partial_equiv_from_equiv nat_list_eq_equiv };
+
+    fn eq(&self, other: &Nums) -> bool {
+        self.items == other.items
+    }
+}
+
+impl Eq for Nums {
+    ghost laws = { nat_list_eq_equiv };
 }
 
 impl Nums {
@@ -48,6 +64,20 @@ impl Model for Words {
     ghost Value = { List ℕ };
 
     ghost view = { λ words. words.items.items };
+}
+
+impl PartialEq for Words {
+    ghost eq = { pointwise nat_eq };
+
+    ghost laws = { partial_equiv_from_equiv nat_list_eq_equiv };
+
+    fn eq(&self, other: &Words) -> bool {
+        self.items == other.items
+    }
+}
+
+impl Eq for Words {
+    ghost laws = { nat_list_eq_equiv };
 }
 
 impl Words {
@@ -90,12 +120,22 @@ mod tests {
         assert!(rt; is_shared(&nums));
         assert_eq!(rt; nums.as_slice(), [3, 1, 4_294_967_295].as_slice());
         assert_eq!(rt;
+            nums,
+            Nums::of(vec![in rt.alloc(); 3u32, 1, 4_294_967_295]?)
+        );
+        assert!(rt; nums != Nums::of(vec![in rt.alloc(); 3u32, 1]?));
+        assert_eq!(rt;
             nums.into_vec().as_slice(),
             [3, 1, 4_294_967_295].as_slice()
         );
 
         let words = Words::of(vec![in rt.alloc(); 7u64, 18_446_744_073_709_551_615]?);
         assert!(rt; is_shared(&words));
+        assert_eq!(rt;
+            words,
+            Words::of(vec![in rt.alloc(); 7u64, 18_446_744_073_709_551_615]?)
+        );
+        assert!(rt; words != Words::of(vec![in rt.alloc(); 7u64, 0]?));
         assert_eq!(rt;
             words.as_slice(),
             [7, 18_446_744_073_709_551_615].as_slice()

@@ -1,5 +1,5 @@
 /// A screen position with its depth.
-#[derive(Clone, Copy, Debug, PartialEq, Eq, PartialOrd, Ord)]
+#[derive(Clone, Copy, Debug, PartialEq, Eq)]
 pub struct Spot {
     /// Sixteenths of a pixel from the picture's left edge, growing to the right.
     pub x: i64,
@@ -10,7 +10,7 @@ pub struct Spot {
 }
 
 /// The size of a picture, in pixels, each side from 1 to `MAX_SIDE`.
-#[derive(Clone, Copy, Debug, PartialEq, Eq, PartialOrd, Ord)]
+#[derive(Clone, Copy, Debug, PartialEq, Eq)]
 pub struct Size {
     /// The number of columns.
     pub width: u32,

@@ -4,7 +4,7 @@ ghost use Rattle.geom_core.specs.Limits.{has_distinct_corners, is_grid_triangle}
 use crate::points::Pt;
 
 /// A triangle by its corners in order. Its directed edges are a to b, b to c and c to a.
-#[derive(Clone, Copy, Debug, PartialEq, Eq, PartialOrd, Ord)]
+#[derive(Clone, Copy, Debug, PartialEq, Eq)]
 pub struct Tri {
     /// The first corner.
     pub a: Pt,
@@ -35,7 +35,7 @@ impl Tri {
 }
 
 /// A triangle, and the source triangle that it came from.
-#[derive(Clone, Copy, Debug, PartialEq, Eq, PartialOrd, Ord)]
+#[derive(Clone, Copy, Debug, PartialEq, Eq)]
 pub struct Tagged {
     /// The triangle as it stands now, perhaps with corners moved.
     pub tri: Tri,

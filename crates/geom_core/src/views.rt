@@ -1,7 +1,7 @@
 use crate::points::Pt;
 
 /// What decides how fine a mesh has to be: where it is seen from, how large, and how exactly.
-#[derive(Clone, Copy, Debug, PartialEq, Eq, PartialOrd, Ord)]
+#[derive(Clone, Copy, Debug, PartialEq, Eq)]
 pub struct Lens {
     /// Where the camera stands, each coordinate from -2^24 to 2^24.
     pub eye: Pt,

@@ -1,0 +1,24 @@
+use Rattle.std.proofs.Common.{◌∙◌, rules, w32, FitsSigned, to_z, of_z}
+use Rattle.std.proofs.lemmas.Int.{to_z-of_z}
+use Rattle.geom_core.specs.declared.points.Pt.{Pt}
+use Rattle.geom_core.specs.Boxes.{high_of}
+use Rattle.geom_core.proofs.PointLaws.{same_parts}
+use Rattle.geom_core.proofs.boxes.high.Goals as goal
+
+pub returns : goal.returns
+unfolding high_of
+returns c =
+    let p = c.args.p in
+    let q = c.args.q in
+    let px : FitsSigned w32 p.x = search rules in
+    let py : FitsSigned w32 p.y = search rules in
+    let pz : FitsSigned w32 p.z = search rules in
+    let qx : FitsSigned w32 q.x = search rules in
+    let qy : FitsSigned w32 q.y = search rules in
+    let qz : FitsSigned w32 q.z = search rules in
+    let x : FitsSigned w32 c.max.result = search rules in
+    let y : FitsSigned w32 c.max-2.result = search rules in
+    let z : FitsSigned w32 c.max-3.result = search rules in
+    rw (to_z-of_z w32 c.max.result x, to_z-of_z w32 c.max-2.result y, to_z-of_z w32 c.max-3.result z)
+    (same_parts _ _ _ _ _ _ (simp to_z-of_z at c.max.ensures.value) (simp to_z-of_z at c.max-2.ensures.value)
+    (simp to_z-of_z at c.max-3.ensures.value))
