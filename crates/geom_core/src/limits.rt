@@ -1,5 +1,5 @@
-//! The limits of meshes, cameras, pictures, clusters, pages and texts. Each number stands here once, with its
-//! unit and its reason; a number that follows from others is written as its expression.
+//! The limits of meshes, cameras, pictures, clusters, pages and texts: each number once, with its unit and
+//! its reason. A number that follows from others is written as its expression.
 
 /// Most triangles of a source mesh. Each level of detail has at most seven eighths of the triangles of the
 /// level below it, so all levels together have at most 2^23.
@@ -66,6 +66,18 @@ pub const CLUSTER_BITS: u32 = 27;
 /// Most clusters of a group.
 pub const CLUSTERS_PER_GROUP: u32 = 8;
 
+/// Most triangles that are simplified at once: those of one group.
+pub const TRIANGLES_PER_GROUP: u32 = CLUSTERS_PER_GROUP * TRIANGLES_PER_CLUSTER;
+
+/// Greatest error of a group, in grid steps; it fits an `i32`.
+pub const MAX_ERROR: u32 = (1 << 31) - 1;
+
+/// Most clusters of a file: all levels together have at most 2^23 triangles, and each cluster has one.
+pub const MAX_CLUSTERS: u32 = 1 << 23;
+
+/// Most groups of a file: each has a cluster.
+pub const MAX_GROUPS: u32 = MAX_CLUSTERS;
+
 /// Bytes of a page, the unit in which geometry is stored and loaded.
 pub const PAGE_BYTES: u32 = 65_536;
 
@@ -75,8 +87,8 @@ pub const TRIANGLE_BYTES: u32 = 40;
 /// Most triangles of a page.
 pub const PAGE_TRIANGLES: u32 = PAGE_BYTES / TRIANGLE_BYTES;
 
-/// Most pages of a file, and most slots of a page pool.
-pub const MAX_PAGES: u32 = 1 << 23;
+/// Most pages of a file, and most slots of a page pool: each page has a group.
+pub const MAX_PAGES: u32 = MAX_GROUPS;
 
 /// Longest OBJ text, in bytes.
 pub const MAX_OBJ_BYTES: u64 = 1 << 28;
