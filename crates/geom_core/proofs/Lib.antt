@@ -7,6 +7,10 @@ pub mod DistinctCorners
 pub mod DivisorLaws
 pub mod EdgeSumLaws
 pub mod Examples
+pub mod ExamplesBoxes
+pub mod ExamplesLimits
+pub mod ExamplesPicture
+pub mod ExamplesScreen
 pub mod FloorLaws
 pub mod InterpolationLaws
 pub mod PointLaws
