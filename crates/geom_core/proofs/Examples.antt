@@ -1,63 +1,14 @@
--- Worked examples of the definitions, computed by the checker.
-use Rattle.std.specs.Prelude.{◌≡◌, ℕ, ◌∷◌, [], List, Some, None, ℤ, pos, negsuc, true, false, filter, flat_map, ◌++◌, refl}
+-- Worked examples of rounding, of the order of points and of edge sums, computed by the checker.
+use Rattle.std.specs.Prelude.{◌≡◌, ℕ, ℤ, pos, negsuc, true, false, List, [], ◌∷◌, ◌++◌, filter, flat_map, refl}
+use Rattle.std.specs.declared.cmp.Ordering.TheVariants.{Less, Equal, Greater}
 use Rattle.geom_core.specs.declared.points.Pt.{Pt}
 use Rattle.geom_core.specs.declared.triangles.Tri.{Tri}
-use Rattle.geom_core.specs.declared.screens.Spot.{Spot}
-use Rattle.geom_core.specs.declared.screens.Size.{Size}
 use Rattle.geom_core.specs.Floor.{floor_div}
-use Rattle.geom_core.specs.Distance.{distance, outside, box_distance}
-use Rattle.geom_core.specs.Boxes.{is_under, holds_point, holds_box, low_of, high_of, join_of, hull_of}
-use Rattle.geom_core.specs.EdgeSum.{same_point, edges_of, edge_count, edge_sum, is_rim_edge}
-use Rattle.geom_core.specs.Camera.{View, along, on_screen, reversed_depth, spot_of}
-use Rattle.std.specs.declared.cmp.Ordering.TheVariants.{Less, Equal, Greater}
-use Rattle.geom_core.specs.Order.{point_cmp}
-use Rattle.geom_core.specs.Winding.{edge_function, passes, crossing, winding}
-use Rattle.geom_core.specs.Depth.{divisor, weighted, held, depth}
-use Rattle.geom_core.specs.Coverage.{covers, covered, word_at}
-use Rattle.geom_core.specs.Picture.{drawn, greatest_at, picture, items_of}
+use Rattle.geom_core.specs.EdgeSum.{same_point, edges_of, edge_count, edge_sum, is_rim_edge, OnRim}
+use Rattle.geom_core.specs.Order.{point_cmp, is_before}
 
 abbrev point : ℤ → ℤ → ℤ → Pt
 point x y z = record { x = x; y = y; z = z }
-
-abbrev spot : ℕ → ℕ → ℕ → Spot
-spot x y z = record { x = pos x; y = pos y; z = z }
-
--- the mesh's grid is 1,024 to a unit
-abbrev grid : ℤ → ℤ → Pt
-grid x z = point x (pos 0) z
-
-abbrev one : ℤ
-one = pos 1024
-
-abbrev minus_one : ℤ
-minus_one = negsuc 1023
-
--- a camera at depth 4,096 above the plane, which sees a unit of 1,024 as 16 sixteenths of a pixel
-abbrev camera : View
-camera = record {
-  focal = 4;
-  near = 33554432;
-  tolerance = 0;
-  eye = point (pos 0) (pos 4096) (pos 0);
-  right = record { x = pos 16384; y = pos 0; z = pos 0 };
-  down = record { x = pos 0; y = pos 0; z = pos 16384 };
-  forward = record { x = pos 0; y = negsuc 16383; z = pos 0 };
-}
-
-abbrev four_by_four : Size
-four_by_four = record { width = 4; height = 4 }
-
-abbrev lower_left : Pt
-lower_left = grid minus_one one
-
-abbrev lower_right : Pt
-lower_right = grid one one
-
-abbrev upper_right : Pt
-upper_right = grid one minus_one
-
-abbrev upper_left : Pt
-upper_left = grid minus_one minus_one
 
 -- rounding down goes away from 0 below it, whichever number is negative
 pub floor_div-7_2 : floor_div (pos 7) (pos 2) ≡ pos 3
@@ -74,66 +25,6 @@ floor_div-minus_7_minus_2 = refl
 
 pub floor_div-minus_6_2 : floor_div (negsuc 5) (pos 2) ≡ negsuc 2
 floor_div-minus_6_2 = refl
-
--- the spots of three corners
-pub spot_of-lower_left : spot_of camera four_by_four lower_left ≡ Some (spot 16 48 536870911)
-unfolding spot_of along on_screen reversed_depth
-spot_of-lower_left = refl
-
-pub spot_of-lower_right : spot_of camera four_by_four lower_right ≡ Some (spot 48 48 536870911)
-unfolding spot_of along on_screen reversed_depth
-spot_of-lower_right = refl
-
-pub spot_of-upper_right : spot_of camera four_by_four upper_right ≡ Some (spot 48 16 536870911)
-unfolding spot_of along on_screen reversed_depth
-spot_of-upper_right = refl
-
--- a point 1,024 nearer is seen further out, and deeper numbers are nearer
-pub spot_of-raised : spot_of camera four_by_four (point one one minus_one) ≡ Some (spot 53 10 715827882)
-unfolding spot_of along on_screen reversed_depth
-spot_of-raised = refl
-
--- nothing nearer than near is seen
-pub spot_of-too_near : spot_of (record camera { near = 17179869184 }) four_by_four lower_left ≡ None
-unfolding spot_of along on_screen reversed_depth
-spot_of-too_near = refl
-
--- a word of the first triangle, and of the second, at the depth of both
-abbrev first : ℕ
-first = 0x7ffffffc00000000
-
-abbrev second : ℕ
-second = 0x7ffffffc00000001
-
-abbrev lower_triangle : Tri
-lower_triangle = record { a = lower_left; b = lower_right; c = upper_right }
-
-abbrev upper_triangle : Tri
-upper_triangle = record { a = lower_left; b = upper_right; c = upper_left }
-
-pub picture-one : picture camera four_by_four (items_of (lower_triangle ∷ [])) ≡
-    0 ∷ 0 ∷ 0 ∷ 0 ∷ 0 ∷ 0 ∷ first ∷ 0 ∷ 0 ∷ first ∷ first ∷ 0 ∷ 0 ∷ 0 ∷ 0 ∷ 0 ∷ []
-unfolding drawn greatest_at spot_of along on_screen reversed_depth covers winding crossing passes edge_function word_at depth weighted divisor held
-picture-one = refl
-
--- the shared edge runs through two centres, and both pixels belong to the first triangle alone
-pub picture-two : picture camera four_by_four (items_of (lower_triangle ∷ upper_triangle ∷ [])) ≡
-    0 ∷ 0 ∷ 0 ∷ 0 ∷ 0 ∷ second ∷ first ∷ 0 ∷ 0 ∷ first ∷ first ∷ 0 ∷ 0 ∷ 0 ∷ 0 ∷ 0 ∷ []
-unfolding drawn greatest_at spot_of along on_screen reversed_depth covers winding crossing passes edge_function word_at depth weighted divisor held
-picture-two = refl
-
-pub covered-upper : covered (spot 16 48 536870911) (spot 48 16 536870911) (spot 16 16 536870911) four_by_four ≡ 5 ∷ []
-unfolding covers winding crossing passes edge_function
-covered-upper = refl
-
--- the depths of a slanted triangle at the centres (40, 24) and (24, 40)
-pub depth-slanted_right : depth (spot 16 48 536870911) (spot 48 48 536870911) (spot 53 10 715827882) (pos 40) (pos 24) ≡ 649896366
-unfolding depth weighted divisor held edge_function
-depth-slanted_right = refl
-
-pub depth-slanted_left : depth (spot 16 48 536870911) (spot 48 48 536870911) (spot 53 10 715827882) (pos 24) (pos 40) ≡ 574546062
-unfolding depth weighted divisor held edge_function
-depth-slanted_left = refl
 
 -- a square of four triangles round its middle
 abbrev corner_a : Pt
@@ -157,6 +48,33 @@ fan p q = record { a = p; b = q; c = middle }
 abbrev square : List Tri
 square = fan corner_a corner_b ∷ fan corner_b corner_c ∷ fan corner_c corner_d ∷ fan corner_d corner_a ∷ []
 
+-- each axis tells two points apart
+pub same_point-itself : same_point corner_b (point (pos 8) (pos 0) (pos 0)) ≡ true
+unfolding same_point
+same_point-itself = refl
+
+pub same_point-not_x : same_point corner_b corner_a ≡ false
+unfolding same_point
+same_point-not_x = refl
+
+pub same_point-not_y : same_point corner_b corner_c ≡ false
+unfolding same_point
+same_point-not_y = refl
+
+pub same_point-not_z : same_point corner_b (point (pos 8) (pos 0) (negsuc 0)) ≡ false
+unfolding same_point
+same_point-not_z = refl
+
+pub edges_of-fan : edges_of (fan corner_a corner_b) ≡
+    (corner_a, corner_b) ∷ (corner_b, middle) ∷ (middle, corner_a) ∷ []
+unfolding edges_of
+edges_of-fan = refl
+
+-- both triangles at corner a have an edge between it and the middle, one each way
+pub edge_count-one_way : edge_count square corner_a middle ≡ 1
+unfolding edge_count edges_of same_point
+edge_count-one_way = refl
+
 -- the edges of a fan of five points, each once
 abbrev pairs : List (Pt × Pt)
 pairs =
@@ -168,6 +86,11 @@ pub rim-square : filter (λ e. is_rim_edge square e.0 e.1) pairs ≡
     (corner_a, corner_b) ∷ (corner_a, corner_d) ∷ (corner_b, corner_c) ∷ (corner_c, corner_d) ∷ []
 unfolding is_rim_edge edge_sum edge_count edges_of same_point
 rim-square = refl
+
+-- a corner is on the rim, by its side, also where the side comes towards it
+pub OnRim-corner : OnRim square corner_a
+unfolding is_rim_edge edge_sum edge_count edges_of same_point
+OnRim-corner = (corner_b, refl)
 
 -- a side counts with its direction
 pub edge_sum-along : edge_sum square corner_a corner_b ≡ pos 1
@@ -189,6 +112,10 @@ edge_sum-same_way = refl
 pub edge_sum-same_way_back : edge_sum same_way corner_b corner_a ≡ negsuc 1
 unfolding edge_sum edge_count edges_of same_point
 edge_sum-same_way_back = refl
+
+pub edge_count-same_way : edge_count same_way corner_a corner_b ≡ 2
+unfolding edge_count edges_of same_point
+edge_count-same_way = refl
 
 -- a triangle twice: each side counts twice, and all three are on the rim
 abbrev doubled : List Tri
@@ -236,34 +163,11 @@ point_cmp-by_z = refl
 pub point_cmp-same : point_cmp (point (pos 1) (pos 2) (pos 3)) (point (pos 1) (pos 2) (pos 3)) ≡ Equal
 point_cmp-same = refl
 
--- the greatest of the axes' distances
-pub distance-example : distance (point (pos 1) (negsuc 4) (pos 2)) (point (pos 4) (pos 2) (pos 2)) ≡ 7
-unfolding distance
-distance-example = refl
+pub is_before-less : is_before (point (pos 0) (pos 9) (pos 9)) (point (pos 1) (negsuc 8) (negsuc 8)) ≡ true
+is_before-less = refl
 
-pub hull_of-square : hull_of (middle ∷ corner_b ∷ corner_d ∷ []) ≡ Some (record { lo = corner_a; hi = corner_c })
-unfolding join_of low_of high_of
-hull_of-square = refl
+pub is_before-same : is_before (point (pos 1) (pos 2) (pos 3)) (point (pos 1) (pos 2) (pos 3)) ≡ false
+is_before-same = refl
 
-pub hull_of-none : hull_of [] ≡ None
-hull_of-none = refl
-
-pub holds_box-inner : holds_box (record { lo = corner_a; hi = corner_c }) (record { lo = middle; hi = corner_c }) ≡ true
-unfolding holds_box is_under
-holds_box-inner = refl
-
-pub holds_box-outer : holds_box (record { lo = middle; hi = corner_c }) (record { lo = corner_a; hi = corner_c }) ≡ false
-unfolding holds_box is_under
-holds_box-outer = refl
-
-pub holds_point-face : holds_point (record { lo = corner_a; hi = corner_c }) corner_b ≡ true
-unfolding holds_point is_under
-holds_point-face = refl
-
-pub box_distance-outside : box_distance (record { lo = corner_a; hi = corner_c }) (point (pos 20) (pos 4) (negsuc 2)) ≡ 12
-unfolding box_distance outside
-box_distance-outside = refl
-
-pub box_distance-inside : box_distance (record { lo = corner_a; hi = corner_c }) middle ≡ 0
-unfolding box_distance outside
-box_distance-inside = refl
+pub is_before-greater : is_before (point (pos 1) (pos 2) (pos 4)) (point (pos 1) (pos 2) (pos 3)) ≡ false
+is_before-greater = refl

@@ -10,7 +10,11 @@ pub mod DistinctCorners
 pub mod DivisorLaws
 pub mod EdgeSumLaws
 pub mod Examples
+pub mod ExamplesBoxes
 pub mod ExamplesCollapses
+pub mod ExamplesLimits
+pub mod ExamplesPicture
+pub mod ExamplesScreen
 pub mod FloorLaws
 pub mod InterpolationLaws
 pub mod PointLaws
