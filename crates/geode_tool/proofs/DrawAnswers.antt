@@ -1,4 +1,4 @@
--- What a drawing that was made, or a fault before it, says of the answer of `draw`.
+-- What a request that was made, or a fault before it, says of the answer of `draw`.
 use Rattle.std.proofs.Common.{◌≡◌, ℕ, List, Option, Some, None, Result, Ok, Err, inl, inr, ap, sym, subst, refl}
 use Rattle.std.specs.Prelude.{IsErr, IfErr}
 use Rattle.std.specs.Result.{IsErrAnd}
@@ -7,22 +7,22 @@ use Rattle.obj_source.specs.declared.faults.ObjFault.{ObjFault}
 use Rattle.obj_source.specs.declared.faults.ObjFault.TheVariants as obj
 use Rattle.obj_source.specs.Mesh.{mesh}
 use Rattle.obj_source.specs.Readings.{Answers, Refused}
-use Rattle.geode_tool.specs.declared.commands.Drawing.{Drawing}
+use Rattle.geode_tool.specs.declared.commands.DrawRequest.{DrawRequest}
 use Rattle.geode_tool.specs.declared.faults.Done.{Done}
 use Rattle.geode_tool.specs.declared.faults.Done.TheVariants.{Drawn}
 use Rattle.geode_tool.specs.declared.faults.Fault.{Fault}
 use Rattle.geode_tool.specs.declared.faults.Fault.TheVariants.{Usage, ReadFault, TooLong, BadObj, TooMany, Empty, BadJournal, Illegal, WriteFault, Memory}
 use Rattle.geode_tool.specs.Commands.{AnswersOrFails}
-use Rattle.geode_tool.specs.Draw.{grid, drawn_or_fault, draw_answer, IsDrawn, IsFaultOf, DrawRefused}
+use Rattle.geode_tool.specs.Draw.{grid, drawn_or_fault, draw_answer, IsPictureText, IsFaultOf, DrawRefused}
 use Rattle.geode_tool.specs.Faults.{fault_of_obj}
 
 draw_answer-mesh : (text : List ℕ) (answer : Result (List Tri) ObjFault) → mesh grid text ≡ answer → draw_answer text ≡ drawn_or_fault answer
 unfolding draw_answer
 draw_answer-mesh text answer e = ap drawn_or_fault e
 
-pub answered-drawn : (drawing : Drawing) (input : Option (List ℕ)) (text : List ℕ) → IsDrawn drawing input text → AnswersOrFails draw_answer input (Ok Drawn)
-answered-drawn drawing None text drawn = tt
-answered-drawn drawing (Some bytes) text drawn = inl (sym (draw_answer-mesh bytes (Ok drawn.tris) drawn.listed))
+pub answered-drawn : (request : DrawRequest) (input : Option (List ℕ)) (text : List ℕ) → IsPictureText request input text → AnswersOrFails draw_answer input (Ok Drawn)
+answered-drawn request None text drawn = tt
+answered-drawn request (Some bytes) text drawn = inl (sym (draw_answer-mesh bytes (Ok drawn.tris) drawn.listed))
 
 -- a fault of the text, as the tool names it
 told : (input : Option (List ℕ)) (fault : ObjFault) → Answers grid input (Err fault) → IsFaultOf input (fault_of_obj fault)

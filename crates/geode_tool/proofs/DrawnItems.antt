@@ -44,10 +44,10 @@ pub drawn-third_hidden : (view : View) (size : Size) (item : Item) (a b : Spot) 
 drawn-third_hidden view size item a b is_a is_b e before =
     after_nothing before (drawn view size item) (drawn_from view size item (Some a) (Some b) None is_a is_b e)
 
-pub drawn-missed : (view : View) (size : Size) (item : Item) (a b c : Spot) →
+pub drawn-off_screen : (view : View) (size : Size) (item : Item) (a b c : Spot) →
     Some a ≡ spot_of view size item.tri.a → Some b ≡ spot_of view size item.tri.b → Some c ≡ spot_of view size item.tri.c →
     words_of a b c item.cluster item.place size ≡ [] → (before : List (ℕ × ℕ)) → before ≡ before ++ drawn view size item
-drawn-missed view size item a b c is_a is_b is_c none before =
+drawn-off_screen view size item a b c is_a is_b is_c none before =
     after_nothing before (drawn view size item) (sym none ∙ drawn-seen view size item a b c is_a is_b is_c)
 
 -- triangle k as place k mod 128 of cluster k div 128

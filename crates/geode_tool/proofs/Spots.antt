@@ -27,7 +27,7 @@ computed right down depth =
     record { right = to_z w64 (of_z w64 right); down = to_z w64 (of_z w64 down); depth = to_z w64 (of_z w64 depth) }
 
 -- what the steps of turning a point give
-pub record Turned (view : View) (p : Pt) (right down depth : ℤ) : Type 0 where
+pub record ViewSteps (view : View) (p : Pt) (right down depth : ℤ) : Type 0 where
   pub near : view.near ≤ 2 ^ 34
   pub right_is : right ≡ along view.right view.eye p
   pub right_bound : unsigned_abs right ≤ 876173328384
@@ -37,9 +37,9 @@ pub record Turned (view : View) (p : Pt) (right down depth : ℤ) : Type 0 where
   pub depth_bound : unsigned_abs depth ≤ 876173328384
   pub far : int_lt (to_z w64 (of_z w64 depth)) (to_z w64 view.near) ≡ false
 
-pub spot_of-turned : (view : View) (size : Size) (p : Pt) (right down depth : ℤ) → Turned view p right down depth → spot_of view size p ≡ Some (spot_at view size (computed right down depth))
+pub spot_of-view : (view : View) (size : Size) (p : Pt) (right down depth : ℤ) → ViewSteps view p right down depth → spot_of view size p ≡ Some (spot_at view size (computed right down depth))
 unfolding spot_of spot_at
-spot_of-turned view size p right down depth t =
+spot_of-view view size p right down depth t =
     let test = depth_test depth view.near false t.depth_bound t.near t.far in
     let right_stays : to_z w64 (of_z w64 right) ≡ along view.right view.eye p = small_stays right 876173328384 t.right_bound (lit< tt) ∙ t.right_is in
     let down_stays : to_z w64 (of_z w64 down) ≡ along view.down view.eye p = small_stays down 876173328384 t.down_bound (lit< tt) ∙ t.down_is in

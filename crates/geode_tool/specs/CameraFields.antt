@@ -2,7 +2,7 @@
 use Rattle.std.specs.Prelude.{◌≤◌, ◌^◌}
 use Rattle.geom_core.specs.Camera.{View}
 use Rattle.geode_tool.specs.CameraNumbers.{IsWithin}
-use Rattle.geode_tool.specs.Rows.{IsRow, direction_of, row_of}
+use Rattle.geode_tool.specs.RotationRows.{IsRotationRow, direction_of, row_of}
 use Rattle.geode_tool.specs.declared.cameras.Camera.TheInside.{Inside}
 
 -- the ranges of a camera's fields
@@ -13,9 +13,9 @@ pub record IsCamera (c : Inside) : Type 0 where
   pub near_high : c.near ≤ 2 ^ 34
   pub tolerance_high : c.tolerance ≤ 65535
   pub eye : IsWithin (2 ^ 24) c.eye
-  pub right : IsRow c.right
-  pub down : IsRow c.down
-  pub forward : IsRow c.forward
+  pub right : IsRotationRow c.right
+  pub down : IsRotationRow c.down
+  pub forward : IsRotationRow c.forward
 
 abbrev pub view_of : Inside → View
 view_of c = record {

@@ -6,7 +6,7 @@ use Rattle.span_io.specs.Faults.{Rose}
 use Rattle.obj_source.specs.declared.faults.ObjFault.{ObjFault}
 use Rattle.obj_source.specs.Mesh.{mesh}
 use Rattle.obj_source.specs.Readings.{Listed}
-use Rattle.geode_tool.specs.declared.commands.Drawing.{Drawing}
+use Rattle.geode_tool.specs.declared.commands.DrawRequest.{DrawRequest}
 use Rattle.geode_tool.specs.declared.faults.Done.{Done}
 use Rattle.geode_tool.specs.declared.faults.Done.TheVariants.{Drawn}
 use Rattle.geode_tool.specs.declared.faults.Fault.{Fault}
@@ -27,16 +27,16 @@ drawn_or_fault (Err fault) = Err (fault_of_obj fault)
 unfoldable pub draw_answer : List ℕ → Result Done Fault
 draw_answer text = drawn_or_fault (mesh grid text)
 
--- the text of the picture that a drawing shows of triangles, each under its number in their list
-unfoldable pub drawing_text : Drawing → List Tri → List ℕ
-drawing_text drawing tris = picture_text_of (picture drawing.camera drawing.size (items_of tris)) drawing.size.width
+-- the text of the picture that a request shows of triangles, each under its number in their list
+unfoldable pub requested_text : DrawRequest → List Tri → List ℕ
+requested_text request tris = picture_text_of (picture request.camera request.size (items_of tris)) request.size.width
 
--- The text is that of the drawing, of the triangles that the input's bytes list. Where the input doesn't
+-- The text is that of the request, of the triangles that the input's bytes list. Where the input doesn't
 -- tell its bytes, it is of the triangles that some text lists.
-pub record IsDrawn (drawing : Drawing) (input : Option (List ℕ)) (text : List ℕ) : Type 0 where
+pub record IsPictureText (request : DrawRequest) (input : Option (List ℕ)) (text : List ℕ) : Type 0 where
   pub tris : List Tri
   pub listed : Listed grid input tris
-  pub shown : text ≡ drawing_text drawing tris
+  pub shown : text ≡ requested_text request tris
 
 -- the fault is the one that the input's text has, or the input doesn't tell its bytes
 abbrev pub IsFaultOf : Option (List ℕ) → Fault → Type 0

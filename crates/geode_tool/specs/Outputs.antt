@@ -3,13 +3,13 @@ use Rattle.std.specs.Prelude.{◌≤◌, ℕ, List, length, take, Option}
 use Rattle.span_io.specs.Puts.{Appended}
 
 -- a whole text, of which the first argument holds
-pub record WritesWhole (IsOutput : List ℕ → Type 0) (written new_written : Option (List ℕ)) : Type 0 where
+pub record WritesAll (IsOutput : List ℕ → Type 0) (written new_written : Option (List ℕ)) : Type 0 where
   pub text : List ℕ
   pub is_output : IsOutput text
   pub appended : Appended written new_written text
 
 -- some first bytes of such a text, perhaps none or all
-pub record WritesFront (IsOutput : List ℕ → Type 0) (written new_written : Option (List ℕ)) : Type 0 where
+pub record WritesPrefix (IsOutput : List ℕ → Type 0) (written new_written : Option (List ℕ)) : Type 0 where
   pub text : List ℕ
   pub is_output : IsOutput text
   pub count : ℕ

@@ -1,8 +1,8 @@
 -- The text that an input gives, and what the reading of it came to.
 use Rattle.std.specs.Prelude.{◌≡◌, ◌+◌, ◌<◌, ℕ, List, [], length, drop, Option, IfSome, option_map}
 use Rattle.span_io.specs.Faults.{Rose}
-use Rattle.geode_tool.specs.declared.texts.TextFault.{TextFault}
-use Rattle.geode_tool.specs.declared.texts.TextFault.TheVariants.{Read, TooLong, Memory}
+use Rattle.geode_tool.specs.declared.read_input.TextFault.{TextFault}
+use Rattle.geode_tool.specs.declared.read_input.TextFault.TheVariants.{Read, TooLong, Memory}
 
 -- the text that the input has left, where it tells its bytes; any text where it doesn't
 abbrev pub IsText : Option (List ℕ) → List ℕ → Type 0

@@ -14,7 +14,7 @@ spot_at view size at = record {
 }
 
 -- a point of the grid that is no nearer than the near depth
-pub record IsBeyond (view : View) (at : ViewPoint) : Type 0 where
+pub record IsBeyondNear (view : View) (at : ViewPoint) : Type 0 where
   pub right : unsigned_abs at.right ≤ 876173328384
   pub down : unsigned_abs at.down ≤ 876173328384
   pub depth : unsigned_abs at.depth ≤ 876173328384

@@ -7,7 +7,7 @@ use Rattle.std.specs.Str.Parse.{digits_value}
 use Rattle.geom_core.specs.Camera.{View}
 use Rattle.geode_tool.specs.declared.commands.Command.{Command}
 use Rattle.geode_tool.specs.declared.commands.Command.TheVariants.{Draw, Audit}
-use Rattle.geode_tool.specs.declared.commands.Drawing.{Drawing}
+use Rattle.geode_tool.specs.declared.commands.DrawRequest.{DrawRequest}
 use Rattle.geode_tool.specs.CameraNumbers.{first_bad, view_of_numbers}
 
 infixl 10 ◌>>=◌
@@ -58,7 +58,7 @@ camera bs = do
   if is_none (first_bad ns) then Some (view_of_numbers ns) else None
 
 -- what the words ask to draw, where they are `draw` and the three others
-unfoldable pub draw_words : List (List ℕ) → Option Drawing
+unfoldable pub draw_words : List (List ℕ) → Option DrawRequest
 draw_words (name ∷ width ∷ height ∷ numbers ∷ []) =
     if bytes_eq name (codes "draw")
     then (do

@@ -4,36 +4,36 @@ ghost use Rattle.geom_core.specs.Camera.{along, spot_of};
 ghost use Rattle.geom_core.specs.Coverage.{IsPicture, words_of};
 ghost use Rattle.geode_tool.specs.CameraNumbers.{first_bad, is_outside, view_of_numbers, number_at};
 ghost use Rattle.geode_tool.specs.CameraNumbers.{direction_at, IsWithin, IsSeen};
-ghost use Rattle.geode_tool.specs.Rows.{IsRow, direction_of};
-ghost use Rattle.geode_tool.specs.ViewPoints.{spot_at, IsBeyond};
+ghost use Rattle.geode_tool.specs.RotationRows.{IsRotationRow, direction_of};
+ghost use Rattle.geode_tool.specs.ViewPoints.{spot_at, IsBeyondNear};
 
-use crate::projections::{Aim, is_beside, middle, on_screen, reversed_depth};
+use crate::projections::{ViewAxis, all_off_one_side, half_side, project_axis, reversed_depth};
 use geom_core::{Lens, Pt, Size, Spot};
 use std::marker::Model;
 
 /// Where an eye may stand, on each axis.
-const EYE: (i64, i64) = (-16_777_216, 16_777_216);
+const EYE_RANGE: (i64, i64) = (-16_777_216, 16_777_216);
 
 /// The entries of a rotation, in 1/16,384.
-const ENTRY: (i64, i64) = (-16_384, 16_384);
+const ROTATION_RANGE: (i64, i64) = (-16_384, 16_384);
 
 /// The least and the greatest that each of a camera's numbers may be, in their order.
 const RANGES: [(i64, i64); 15] = [
     (1, 4_096),
     (16_384, 17_179_869_184),
     (0, 65_535),
-    EYE,
-    EYE,
-    EYE,
-    ENTRY,
-    ENTRY,
-    ENTRY,
-    ENTRY,
-    ENTRY,
-    ENTRY,
-    ENTRY,
-    ENTRY,
-    ENTRY,
+    EYE_RANGE,
+    EYE_RANGE,
+    EYE_RANGE,
+    ROTATION_RANGE,
+    ROTATION_RANGE,
+    ROTATION_RANGE,
+    ROTATION_RANGE,
+    ROTATION_RANGE,
+    ROTATION_RANGE,
+    ROTATION_RANGE,
+    ROTATION_RANGE,
+    ROTATION_RANGE,
 ];
 
 /// Numbers that are no camera's.
@@ -45,7 +45,7 @@ pub(crate) struct BadCamera {
 
 /// A row of the rotation that turns the mesh's axes to the camera's, in 1/16,384.
 #[derive(Clone, Copy, Debug, PartialEq, Eq)]
-struct Row {
+struct RotationRow {
     x: i32,
     y: i32,
     z: i32,
@@ -72,9 +72,9 @@ pub(crate) struct Camera {
     near: u64,
     tolerance: u32,
     eye: Pt,
-    right: Row,
-    down: Row,
-    forward: Row,
+    right: RotationRow,
+    down: RotationRow,
+    forward: RotationRow,
 }
 
 impl Model for Camera {
@@ -92,21 +92,21 @@ impl Model for Camera {
 }
 
 impl ViewPoint {
-    /// How it lies across the picture.
-    fn across(&self) -> Aim
+    /// The point's horizontal axis: offset to the right and distance ahead.
+    fn horizontal(&self) -> ViewAxis
         ensures { result ≡ record { offset = self.now.right; depth = self.now.depth } }
     {
-        Aim {
+        ViewAxis {
             offset: self.right,
             depth: self.depth,
         }
     }
 
-    /// How it lies down the picture.
-    fn downwards(&self) -> Aim
+    /// The point's vertical axis: offset down and distance ahead.
+    fn vertical(&self) -> ViewAxis
         ensures { result ≡ record { offset = self.now.down; depth = self.now.depth } }
     {
-        Aim {
+        ViewAxis {
             offset: self.down,
             depth: self.depth,
         }
@@ -121,8 +121,8 @@ impl Camera {
     ///
     /// Otherwise the first number that is out of its range.
     pub(crate) fn new(numbers: [i64; 15]) -> Result<Camera, BadCamera>
-        ensures good { first_bad numbers ≡ None → result ≡ Ok (view_of_numbers numbers) }
-        ensures bad { IfSome (first_bad numbers)
+        ensures camera { first_bad numbers ≡ None → result ≡ Ok (view_of_numbers numbers) }
+        ensures bad_camera { IfSome (first_bad numbers)
             (λ field. result ≡ Err (record { field = field })) }
     {
         match first_out_of_range(&numbers) {
@@ -147,33 +147,33 @@ impl Camera {
     }
 
     /// A point of the grid in the camera's axes, if it is no nearer than the near depth.
-    pub(crate) fn turn(&self, p: Pt) -> Option<ViewPoint>
-        requires on_grid { IsWithin (2 ^ 20) p }
-        ensures beyond { IfSome result (IsBeyond self.now) }
+    pub(crate) fn to_view(&self, p: Pt) -> Option<ViewPoint>
+        requires grid_point { IsWithin (2 ^ 20) p }
+        ensures beyond_near { IfSome result (IsBeyondNear self.now) }
         ensures spot { (size : Size) → spot_of self.now size p
             ≡ option_map (spot_at self.now size) result }
     {
-        let depth = along(self.forward, self.eye, p);
+        let depth = dot_from_eye(self.forward, self.eye, p);
         if depth < self.near as i64 {
             return None;
         }
         Some(ViewPoint {
-            right: along(self.right, self.eye, p),
-            down: along(self.down, self.eye, p),
+            right: dot_from_eye(self.right, self.eye, p),
+            down: dot_from_eye(self.down, self.eye, p),
             depth,
         })
     }
 
     /// Where a point is seen in a picture of this size.
-    pub(crate) fn spot(&self, size: Size, at: ViewPoint) -> Spot
+    pub(crate) fn project(&self, size: Size, at: ViewPoint) -> Spot
         requires picture { IsPicture size }
-        requires beyond { IsBeyond self.now at }
-        ensures value { result ≡ spot_at self.now size at }
-        ensures seen { IsSeen result }
+        requires beyond_near { IsBeyondNear self.now at }
+        ensures spot { result ≡ spot_at self.now size at }
+        ensures spot_range { IsSeen result }
     {
         Spot {
-            x: middle(size.width) + on_screen(self.focal, at.right, at.depth),
-            y: middle(size.height) + on_screen(self.focal, at.down, at.depth),
+            x: half_side(size.width) + project_axis(self.focal, at.right, at.depth),
+            y: half_side(size.height) + project_axis(self.focal, at.down, at.depth),
             z: reversed_depth(self.near, at.depth),
         }
     }
@@ -181,17 +181,17 @@ impl Camera {
     /// Whether all three points are seen on one side of all the centres of a picture.
     ///
     /// The test makes no division, and a triangle of such points covers nothing.
-    pub(crate) fn misses(&self, size: Size, a: ViewPoint, b: ViewPoint, c: ViewPoint) -> bool
+    pub(crate) fn is_off_screen(&self, size: Size, a: ViewPoint, b: ViewPoint, c: ViewPoint) -> bool
         requires picture { IsPicture size }
-        requires beyond { IsBeyond self.now a × IsBeyond self.now b × IsBeyond self.now c }
+        requires beyond_near { IsBeyondNear self.now a × IsBeyondNear self.now b × IsBeyondNear self.now c }
         ensures { result ≡ true → (cluster place : ℕ) →
             words_of (spot_at self.now size a) (spot_at self.now size b) (spot_at self.now size c)
             cluster place size ≡ [] }
     {
         let focal = self.focal;
         let Size { width, height } = size;
-        is_beside(focal, width, a.across(), b.across(), c.across())
-            || is_beside(focal, height, a.downwards(), b.downwards(), c.downwards())
+        all_off_one_side(focal, width, a.horizontal(), b.horizontal(), c.horizontal())
+            || all_off_one_side(focal, height, a.vertical(), b.vertical(), c.vertical())
     }
 }
 
@@ -236,13 +236,13 @@ fn from_numbers(numbers: &[i64; 15]) -> Camera
 }
 
 /// The row whose entries begin at a place.
-fn row_at(numbers: &[i64; 15], place: usize) -> Row
-    requires low { 6 ≤ place }
-    requires high { place ≤ 12 }
-    requires fit { (k : ℕ) → k < 15 → 6 ≤ k → unsigned_abs (number_at numbers.now k) ≤ 16384 }
+fn row_at(numbers: &[i64; 15], place: usize) -> RotationRow
+    requires least_field { 6 ≤ place }
+    requires greatest_field { place ≤ 12 }
+    requires entries { (k : ℕ) → k < 15 → 6 ≤ k → unsigned_abs (number_at numbers.now k) ≤ 16384 }
     ensures { direction_of result ≡ direction_at numbers.now place }
 {
-    Row {
+    RotationRow {
         x: numbers[place] as i32,
         y: numbers[place + 1] as i32,
         z: numbers[place + 2] as i32,
@@ -250,23 +250,25 @@ fn row_at(numbers: &[i64; 15], place: usize) -> Row
 }
 
 /// How far `p` lies along a row from the eye, in 1/16,384 of a coordinate.
-fn along(row: Row, eye: Pt, p: Pt) -> i64
-    requires row { IsRow row }
+fn dot_from_eye(row: RotationRow, eye: Pt, p: Pt) -> i64
+    requires rotation_row { IsRotationRow row }
     requires eye { IsWithin (2 ^ 24) eye }
-    requires on_grid { IsWithin (2 ^ 20) p }
-    ensures value { result ≡ along (direction_of row) eye p }
-    ensures bound { unsigned_abs result ≤ 876173328384 }
+    requires grid_point { IsWithin (2 ^ 20) p }
+    ensures dot { result ≡ along (direction_of row) eye p }
+    ensures dot_limit { unsigned_abs result ≤ 876173328384 }
 {
-    part(row.x, eye.x, p.x) + part(row.y, eye.y, p.y) + part(row.z, eye.z, p.z)
+    axis_product(row.x, eye.x, p.x)
+        + axis_product(row.y, eye.y, p.y)
+        + axis_product(row.z, eye.z, p.z)
 }
 
 /// What one axis adds to it.
-fn part(entry: i32, from: i32, to: i32) -> i64
+fn axis_product(entry: i32, from: i32, to: i32) -> i64
     requires entry { unsigned_abs entry ≤ 16384 }
     requires from { unsigned_abs from ≤ 2 ^ 24 }
     requires to { unsigned_abs to ≤ 2 ^ 20 }
-    ensures value { result ≡ entry *ℤ (to -ℤ from) }
-    ensures bound { unsigned_abs result ≤ 292057776128 }
+    ensures product { result ≡ entry *ℤ (to -ℤ from) }
+    ensures product_limit { unsigned_abs result ≤ 292057776128 }
 {
     let away = i64::from(to) - i64::from(from);
     i64::from(entry) * away
@@ -297,10 +299,10 @@ mod tests {
 
     fn screen(camera: &Camera, size: Size, p: Pt) -> Option<Spot>
         requires picture { IsPicture size }
-        requires on_grid { IsWithin (2 ^ 20) p }
+        requires grid_point { IsWithin (2 ^ 20) p }
     {
-        let at = camera.turn(p)?;
-        Some(camera.spot(size, at))
+        let at = camera.to_view(p)?;
+        Some(camera.project(size, at))
     }
 
     #[test]
@@ -364,14 +366,14 @@ mod tests {
         ];
         for (name, (xa, xb, xc), (za, zb, zc), want) in cases {
             let corners = (
-                camera.turn(point(xa, 0, za)),
-                camera.turn(point(xb, 0, zb)),
-                camera.turn(point(xc, 0, zc)),
+                camera.to_view(point(xa, 0, za)),
+                camera.to_view(point(xb, 0, zb)),
+                camera.to_view(point(xc, 0, zc)),
             );
             let (Some(a), Some(b), Some(c)) = corners else {
                 panic!(&rt; "{name}");
             };
-            assert_eq!(rt; camera.misses(size, a, b, c), want, "{name}");
+            assert_eq!(rt; camera.is_off_screen(size, a, b, c), want, "{name}");
         }
     }
 

@@ -7,7 +7,7 @@ ghost use Rattle.geom_core.specs.Coverage.{IsPicture};
 ghost use Rattle.geode_tool.specs.Words.{command_words, is_audit};
 ghost use Rattle.geode_tool.specs.Words.{draw_words, whole_number, signed_number, side, camera};
 ghost use Rattle.geode_tool.specs.Words.{is_numeral, is_side, numbers_of, fifteen};
-ghost use Rattle.geode_tool.specs.declared.commands.Drawing.{Drawing};
+ghost use Rattle.geode_tool.specs.declared.commands.DrawRequest.{DrawRequest};
 
 use crate::cameras::Camera;
 use geom_core::Size;
@@ -22,14 +22,14 @@ const CAMERA_DIGITS: usize = 11;
 #[derive(Clone, Copy, Debug, PartialEq, Eq)]
 pub(crate) enum Command {
     /// `draw`: to draw a mesh.
-    Draw(Drawing),
+    Draw(DrawRequest),
     /// `audit`: to say whether each entry of a journal was allowed.
     Audit,
 }
 
 /// What `draw` is asked for.
 #[derive(Clone, Copy, Debug, PartialEq, Eq)]
-pub(crate) struct Drawing {
+pub(crate) struct DrawRequest {
     /// The size of the picture, from 1 by 1 to 512 by 512.
     pub(crate) size: Size,
     /// The camera that the mesh is seen with.
@@ -39,8 +39,8 @@ pub(crate) struct Drawing {
 /// The command that the program's words ask for, if they have the form of one.
 pub(crate) fn command_of(words: &[&str]) -> Option<Command>
     ensures asked { result ≡ command_words (map (λ w. w.now) words.now) }
-    ensures in_range { (drawing : Drawing) → result ≡ Some (Command.Draw drawing)
-        → IsPicture drawing.size }
+    ensures side_range { (request : DrawRequest) → result ≡ Some (Command.Draw request)
+        → IsPicture request.size }
 {
     if is_audit(words) {
         return Some(Command::Audit);
@@ -58,11 +58,11 @@ fn is_audit(words: &[&str]) -> bool
     }
 }
 
-/// The drawing that the program's words ask for, if they are `draw`, a width, a height and a camera, each
+/// The request that the program's words ask for, if they are `draw`, a width, a height and a camera, each
 /// in its range. A camera is fifteen numbers joined by commas, in the order of `Camera::new`.
-fn draw_of(words: &[&str]) -> Option<Drawing>
+fn draw_of(words: &[&str]) -> Option<DrawRequest>
     ensures asked { result ≡ draw_words (map (λ w. w.now) words.now) }
-    ensures in_range { IfSome result (λ drawing. IsPicture drawing.size) }
+    ensures side_range { IfSome result (λ request. IsPicture request.size) }
 {
     let [name, width, height, camera] = words else {
         return None;
@@ -75,13 +75,13 @@ fn draw_of(words: &[&str]) -> Option<Drawing>
         height: side(height.as_bytes())?,
     };
     let camera = camera_in(camera.as_bytes())?;
-    Some(Drawing { size, camera })
+    Some(DrawRequest { size, camera })
 }
 
 /// The width or the height of a picture: a whole number from 1 to 512.
 fn side(word: &[u8]) -> Option<u32>
-    ensures value { result ≡ side word.now }
-    ensures in_range { IfSome result (λ n. (0 < n) × (n ≤ 512)) }
+    ensures number { result ≡ side word.now }
+    ensures side_range { IfSome result (λ n. (0 < n) × (n ≤ 512)) }
 {
     let number = whole_number(word, SIDE_DIGITS)?;
     if is_side(number) {
@@ -134,11 +134,11 @@ fn signed_number(word: &[u8]) -> Option<i64>
 /// The number that at most this many digits write.
 fn whole_number(word: &[u8], most: usize) -> Option<u64>
     requires { most ≤ 18 }
-    ensures value { result ≡ whole_number most word.now }
-    ensures bound { IfSome result (λ n. n < 10 ^ most) }
+    ensures number { result ≡ whole_number most word.now }
+    ensures number_limit { IfSome result (λ n. n < 10 ^ most) }
 {
     if is_numeral(word, most) {
-        Some(value(word))
+        Some(decimal_value(word))
     } else {
         None
     }
@@ -159,9 +159,9 @@ fn is_digits(word: &[u8]) -> bool
 }
 
 /// The number that digits write.
-fn value(digits: &[u8]) -> u64
+fn decimal_value(digits: &[u8]) -> u64
     requires digits { list_all is_ascii_digit digits.now ≡ true }
-    requires short { length digits.now ≤ 18 }
+    requires length_limit { length digits.now ≤ 18 }
     ensures { result ≡ digits_value 10 digits.now }
 {
     let mut number = 0;

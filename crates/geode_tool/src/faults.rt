@@ -1,7 +1,7 @@
 ghost use Rattle.std.specs.Prelude.{◌≡◌};
 ghost use Rattle.geode_tool.specs.Statuses.{status_of};
 
-use crate::texts::TextFault;
+use crate::read_input::TextFault;
 use geom_core::Memory;
 use journal::JournalFault;
 use obj_source::{ObjFault, ObjWhy};

@@ -4,22 +4,22 @@
 //! command reads and writes stands in `specs/`; the program `geode` only joins it to the terminal.
 #![tactic(auto)]
 
+mod audit_command;
 #[cfg(test)]
 mod audit_tests;
-mod audits;
 mod cameras;
 mod canvases;
 mod commands;
-mod drawing;
+mod draw_command;
+mod draw_mesh;
 mod faults;
 mod picture_texts;
-mod pictures;
 mod projections;
+mod read_input;
 #[cfg(test)]
 mod tests;
-mod texts;
 mod tool;
-mod writing;
+mod write_output;
 
 pub use faults::{Done, Fault, UsageKind};
 pub use tool::geode;

@@ -7,8 +7,8 @@ use std::alloc::Global;
 /// The rows of a picture, from the upper one down: each word as 16 hexadecimal digits in lower case,
 /// parted by one space, and a line feed at the end of each row.
 pub(crate) fn picture_text(alloc: Global, words: &[u64], width: u32) -> Result<Vec<u8>, Memory>
-    requires some_column { 1 ≤ width }
-    requires few_columns { width ≤ 512 }
+    requires column { 1 ≤ width }
+    requires side_limit { width ≤ 512 }
     requires whole_rows { length words.now % width ≡ 0 }
     ensures { IfOk result (λ text. text.items ≡ picture_text_of words.now width) }
 {

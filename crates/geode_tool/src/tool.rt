@@ -3,15 +3,15 @@ ghost use Rattle.span_io.specs.Faults.{Rose};
 ghost use Rattle.span_io.specs.Puts.{Appended};
 ghost use Rattle.geode_tool.specs.Audit.{verdict_text, IsAudited};
 ghost use Rattle.geode_tool.specs.Commands.{asked, answer_of, is_own, may_refuse, IsOutput, AnswersOrFails};
-ghost use Rattle.geode_tool.specs.Draw.{IsDrawn};
-ghost use Rattle.geode_tool.specs.Outputs.{WritesWhole, WritesFront};
+ghost use Rattle.geode_tool.specs.Draw.{IsPictureText};
+ghost use Rattle.geode_tool.specs.Outputs.{WritesAll, WritesPrefix};
 ghost use Rattle.geode_tool.specs.Texts.{ReadToEnd};
 ghost use Rattle.geode_tool.specs.declared.commands.Command.{Command};
-ghost use Rattle.geode_tool.specs.declared.commands.Drawing.{Drawing};
+ghost use Rattle.geode_tool.specs.declared.commands.DrawRequest.{DrawRequest};
 
-use crate::audits::audit;
+use crate::audit_command::audit;
 use crate::commands::{Command, command_of};
-use crate::drawing::draw;
+use crate::draw_command::draw;
 use crate::faults::{Done, Fault, UsageKind};
 use span_io::{Sink, Source};
 use std::alloc::Global;
@@ -30,7 +30,7 @@ pub fn geode<S: Source, K: Sink>(
 ) -> Result<Done, Fault>
     // Words that ask for no command are refused, and nothing else is; then nothing is read or written.
     ensures usage { (result ≡ Err (Fault.Usage UsageKind.Line)) ↔ (asked words.now ≡ None) }
-    ensures untouched { asked words.now ≡ None
+    ensures unchanged { asked words.now ≡ None
         → (input.new ≡ input.old) × (out.new ≡ out.old) }
 
     // A told text has one answer, a success or a refusal, unless reading, writing or memory fails.
@@ -38,14 +38,14 @@ pub fn geode<S: Source, K: Sink>(
         AnswersOrFails (answer_of command) (S.left input.old) result) }
 
     // Success is the command's own; all input was read, and the output is flushed.
-    ensures own { IfOk result (λ done. IfSome (asked words.now)
+    ensures success_kind { IfOk result (λ done. IfSome (asked words.now)
         (λ command. is_own command done ≡ true)) }
-    ensures ended { OnOk result (ReadToEnd (S.left input.old) (S.left input.new)) }
+    ensures input_read { OnOk result (ReadToEnd (S.left input.old) (S.left input.new)) }
     ensures flushed { OnOk result (K.flushed out.new ≡ true) }
 
     // `draw`: the picture's text stands behind what was written before.
-    ensures drawn { (drawing : Drawing) → asked words.now ≡ Some (Command.Draw drawing)
-        → OnOk result (WritesWhole (IsDrawn drawing (S.left input.old))
+    ensures picture { (request : DrawRequest) → asked words.now ≡ Some (Command.Draw request)
+        → OnOk result (WritesAll (IsPictureText request (S.left input.old))
         (K.written out.old) (K.written out.new)) }
 
     // `audit`: the count is that of a legal journal, and the verdict with it stands behind.
@@ -61,10 +61,10 @@ pub fn geode<S: Source, K: Sink>(
         → Rose (S.faults input.old) (S.faults input.new) }
     ensures write_fault { result ≡ Err Fault.WriteFault
         → Rose (K.faults out.old) (K.faults out.new) }
-    ensures front { result ≡ Err Fault.WriteFault → IfSome (asked words.now)
-        (λ command. WritesFront (IsOutput command (S.left input.old))
+    ensures prefix { result ≡ Err Fault.WriteFault → IfSome (asked words.now)
+        (λ command. WritesPrefix (IsOutput command (S.left input.old))
         (K.written out.old) (K.written out.new)) }
-    ensures quiet { IfErr result (λ fault. fault ≢ Fault.WriteFault → out.new ≡ out.old) }
+    ensures output_unchanged { IfErr result (λ fault. fault ≢ Fault.WriteFault → out.new ≡ out.old) }
 
     // Where neither input nor output failed, a told text's answer comes, unless memory ran out.
     ensures complete { (command : Command) (text : List ℕ) → asked words.now ≡ Some command
@@ -73,12 +73,12 @@ pub fn geode<S: Source, K: Sink>(
         → ¬ (Rose (K.faults out.old) (K.faults out.new))
         → (result ≡ answer_of command text) ⊎ (result ≡ Err Fault.Memory) }
 
-    ensures input_count { S.faults input.old ≤ S.faults input.new }
-    ensures out_count { K.faults out.old ≤ K.faults out.new }
+    ensures input_fault_count { S.faults input.old ≤ S.faults input.new }
+    ensures output_fault_count { K.faults out.old ≤ K.faults out.new }
 {
     match command_of(words) {
         None => Err(Fault::Usage(UsageKind::Line)),
-        Some(Command::Draw(drawing)) => draw(alloc, &drawing, input, out),
+        Some(Command::Draw(request)) => draw(alloc, &request, input, out),
         Some(Command::Audit) => audit(alloc, input, out),
     }
 }

@@ -1,0 +1,88 @@
+ghost use Rattle.std.specs.Prelude.{◌≡◌, ◌<◌, ◌≤◌, ◌^◌, length, vec_len, IfOk, IfErr, OnOk};
+ghost use Rattle.geode_tool.specs.Texts.{IsText, ReadToEnd, TextRefused};
+
+use span_io::{Got, Source};
+use std::alloc::{AllocError, Global};
+
+/// The most bytes that are asked for at once.
+const READ_BYTES: usize = 65_536;
+
+/// Why a text wasn't read: the first that holds, in this order. `Memory` may come at any place.
+#[derive(Clone, Copy, Debug, PartialEq, Eq)]
+pub(crate) enum TextFault {
+    /// The source failed before its end, or before the first byte too many.
+    Read,
+    /// The text has more bytes than are wanted.
+    TooLong,
+    /// Memory ran out.
+    Memory,
+}
+
+impl From<AllocError> for TextFault {
+    ghost use Rattle.std.specs.Prelude.{◌≡◌};
+    ghost use Rattle.geode_tool.specs.declared.read_input.TextFault.TheVariants as texts;
+
+    ghost from_gives = { λ _ fault. fault ≡ texts.Memory };
+
+    fn from(_refused: AllocError) -> TextFault {
+        TextFault::Memory
+    }
+}
+
+/// All that the source has left, where that is at most `most` bytes. Where it is more, only the first
+/// byte too many is read besides.
+pub(crate) fn read_at_most<S: Source>(
+    alloc: Global,
+    src: &mut S,
+    most: usize,
+) -> Result<Vec<u8>, TextFault>
+    requires { most < 2 ^ 32 }
+
+    ensures text { IfOk result (λ text. IsText (S.left src.old) text.items) }
+    ensures length_limit { IfOk result (λ text. length text.items ≤ most) }
+    ensures input_read { OnOk result (ReadToEnd (S.left src.old) (S.left src.new)) }
+
+    ensures refused { IfErr result (TextRefused most (S.left src.old) (S.left src.new)
+        (S.faults src.old) (S.faults src.new)) }
+    ensures fault_count { S.faults src.old ≤ S.faults src.new }
+{
+    let mut piece = piece_buffer(alloc)?;
+    read_in_pieces(alloc, src, most, &mut piece)
+}
+
+/// Room for one piece.
+fn piece_buffer(alloc: Global) -> Result<Vec<u8>, AllocError>
+    ensures { IfOk result (λ piece. vec_len piece ≡ READ_BYTES) }
+{
+    vec![in alloc; 0; READ_BYTES]
+}
+
+/// The same as `read_at_most`, in pieces that fit the buffer.
+fn read_in_pieces<S: Source>(
+    alloc: Global,
+    src: &mut S,
+    most: usize,
+    piece: &mut [u8],
+) -> Result<Vec<u8>, TextFault>
+    requires length_range { most < 2 ^ 32 }
+    requires buffer_size { 0 < length piece.old }
+
+    ensures text { IfOk result (λ text. IsText (S.left src.old) text.items) }
+    ensures length_limit { IfOk result (λ text. length text.items ≤ most) }
+    ensures input_read { OnOk result (ReadToEnd (S.left src.old) (S.left src.new)) }
+
+    ensures refused { IfErr result (TextRefused most (S.left src.old) (S.left src.new)
+        (S.faults src.old) (S.faults src.new)) }
+    ensures fault_count { S.faults src.old ≤ S.faults src.new }
+{
+    let mut text = Vec::new(alloc);
+    'pieces: while text.len() <= most {
+        let room = piece.len().min(most + 1 - text.len());
+        match src.read_some(&mut piece[..room]) {
+            Got::Bytes(count) => text.extend_from_slice(&piece[..count])?,
+            Got::End => return Ok(text),
+            Got::Failed => return Err(TextFault::Read),
+        }
+    }
+    Err(TextFault::TooLong)
+}
