@@ -3,6 +3,7 @@ use Rattle.std.proofs.Common.{◌≡◌, ℕ, ◌+◌, ◌<◌, ◌≤◌, ◌/�
 use Rattle.std.specs.Prelude.{flat_map}
 use Rattle.std.specs.List.{enumerate_from}
 use Rattle.std.proofs.lemmas.List.{append-nil, map_push, take_more, flat_map_more, length-take-le}
+use Rattle.geom_core.specs.declared.limits.TheConstants.{TRIANGLES_PER_CLUSTER}
 use Rattle.geom_core.specs.declared.screens.Spot.{Spot}
 use Rattle.geom_core.specs.declared.screens.Size.{Size}
 use Rattle.geom_core.specs.declared.triangles.Tri.{Tri}
@@ -52,7 +53,7 @@ drawn-off_screen view size item a b c is_a is_b is_c none before =
 
 -- triangle k as place k mod 128 of cluster k div 128
 abbrev pub item_at : ℕ → Tri → Item
-item_at k t = record { cluster = k / 128; place = k % 128; tri = t }
+item_at k t = record { cluster = k / TRIANGLES_PER_CLUSTER; place = k % TRIANGLES_PER_CLUSTER; tri = t }
 
 enumerate_from-push : (n : ℕ) (tris : List Tri) (t : Tri) → enumerate_from n (tris ++ t ∷ []) ≡ enumerate_from n tris ++ (n + length tris, t) ∷ []
 enumerate_from-push n [] t = ap (λ (k : ℕ). (k, t) ∷ []) (sym (add-zero n))

@@ -10,6 +10,7 @@ use Rattle.geode_tool.specs.CameraNumbers.{within, ranges, is_outside, first_out
 use Rattle.geode_tool.specs.RotationRows.{IsRotationRow, direction_of}
 use Rattle.geode_tool.specs.CameraFields.{IsCamera, view_of}
 use Rattle.geode_tool.proofs.Bounds.{small_stays}
+use Rattle.geode_tool.proofs.Ranges.{is_eye_from}
 
 -- a test that comes before others finds nothing, and they don't
 none_of : (b : Bool) (k : ℕ) (o : Option ℕ) → cond b (Some k) o ≡ None → (b ≡ false) × (o ≡ None)
@@ -141,11 +142,11 @@ IsCamera-made ns right down forward r e f g =
       near_low = rw near (omega (arith, ints));
       near_high = rw near (omega (arith, ints));
       tolerance_high = rw tolerance (omega (arith, ints));
-      eye = record {
+      eye = is_eye_from (made ns right down forward).eye (record {
         x = rw (coordinate_is (number_at ns 3) r.eye_x) r.eye_x;
         y = rw (coordinate_is (number_at ns 4) r.eye_y) r.eye_y;
         z = rw (coordinate_is (number_at ns 5) r.eye_z) r.eye_z;
-      };
+      });
       right = row_is ns right 6 r (lit≤ tt) (lit≤ tt) e;
       down = row_is ns down 9 r (lit≤ tt) (lit≤ tt) f;
       forward = row_is ns forward 12 r (lit≤ tt) (lit≤ tt) g;

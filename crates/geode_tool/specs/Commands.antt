@@ -1,4 +1,4 @@
--- What each command answers, writes and may refuse.
+-- The answer of each command, what it writes, and which faults it may return.
 use Rattle.std.specs.Prelude.{◌≡◌, ◌⊎◌, ℕ, List, map, Bool, true, false, IsTrue, Option, IfSome, Result, Ok, Err}
 use Rattle.std.specs.Borrow.{Bor}
 use Rattle.geode_tool.specs.declared.commands.Command.{Command}
@@ -15,7 +15,7 @@ use Rattle.geode_tool.specs.Words.{command_words}
 abbrev pub asked : List (Bor (List ℕ)) → Option Command
 asked words = command_words (map (λ w. w.now) words)
 
--- what a command answers for a text
+-- the answer of a command for a text
 abbrev pub answer_of : Command → List ℕ → Result Done Fault
 answer_of (Draw request) text = draw_answer text
 answer_of Audit text = audit_answer text
@@ -34,18 +34,18 @@ has_failed (Err (Illegal entry)) = false
 has_failed (Err WriteFault) = true
 has_failed (Err Memory) = true
 
--- for an input that tells its text: the answer is the text's, or something failed
+-- if the input's bytes are known: the answer is that of the bytes, or something failed
 abbrev pub AnswersOrFails : (List ℕ → Result Done Fault) → Option (List ℕ) → Result Done Fault → Type 0
 AnswersOrFails answer input result = IfSome input (λ text. (result ≡ answer text) ⊎ IsTrue (has_failed result))
 
--- which success is a command's own
+-- whether the success is of the command
 abbrev pub is_own : Command → Done → Bool
 is_own (Draw request) Drawn = true
 is_own (Draw request) (Audited entries) = false
 is_own Audit Drawn = false
 is_own Audit (Audited entries) = true
 
--- which faults may come in a command, once its words are taken
+-- whether a command may return the fault
 abbrev pub may_refuse : Command → Fault → Bool
 may_refuse command (Usage kind) = false
 may_refuse command ReadFault = true

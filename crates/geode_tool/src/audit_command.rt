@@ -1,4 +1,5 @@
-ghost use Rattle.std.specs.Prelude.{◌≡◌, ◌≢◌, ◌≤◌, ◌^◌, ℕ, true, length, Ok, Err, string_bytes, IfOk, IfErr, OnOk};
+ghost use Rattle.std.specs.Prelude.{◌≡◌, ◌≢◌, ◌≤◌, ℕ, true, length, Ok, Err, string_bytes, IfOk, IfErr, OnOk};
+ghost use Rattle.geom_core.specs.declared.limits.TheConstants.{MAX_JOURNAL_BYTES};
 ghost use Rattle.span_io.specs.Faults.{Rose};
 ghost use Rattle.span_io.specs.Puts.{Appended};
 ghost use Rattle.geode_tool.specs.Audit.{audit_answer, verdict_text, IsAudited, IsVerdict};
@@ -12,15 +13,13 @@ use crate::faults::{Done, Fault};
 use crate::read_input::read_at_most;
 use crate::write_output::write_whole;
 use geom_core::Memory;
+use geom_core::limits::MAX_JOURNAL_BYTES;
 use journal::{Journal, read_journal};
 use residency::Pool;
 use span_io::{Sink, Source};
 use std::alloc::Global;
 
-/// The most bytes that the text of a journal may have.
-const MAX_JOURNAL_BYTES: usize = 67_108_864;
-
-/// Reads the text of a journal, and says how many entries it has where each was allowed.
+/// Reads the text of a journal and writes the number of its entries, if each entry was allowed.
 pub(crate) fn audit<S: Source, K: Sink>(
     alloc: Global,
     input: &mut S,
@@ -53,7 +52,7 @@ pub(crate) fn audit<S: Source, K: Sink>(
     Ok(Done::Audited { entries })
 }
 
-/// How many entries the journal has whose text the input gives, where each was allowed.
+/// Reads the text of a journal and returns the number of its entries, if each entry was allowed.
 fn legal_entries<S: Source>(alloc: Global, input: &mut S) -> Result<u64, Fault>
     ensures legal { IfOk result (IsAudited (S.left input.old)) }
     ensures input_read { OnOk result (ReadToEnd (S.left input.old) (S.left input.new)) }
@@ -62,13 +61,13 @@ fn legal_entries<S: Source>(alloc: Global, input: &mut S) -> Result<u64, Fault>
         (AuditRefused (S.left input.old) (S.faults input.old) (S.faults input.new)) }
     ensures fault_count { S.faults input.old ≤ S.faults input.new }
 {
-    let text = read_at_most(alloc, input, MAX_JOURNAL_BYTES)?;
+    let text = read_at_most(alloc, input, MAX_JOURNAL_BYTES as usize)?;
     entries_of(alloc, &text)
 }
 
-/// How many entries the journal of a text has, where each was allowed.
+/// Returns the number of entries of the journal in a text, if each entry was allowed.
 fn entries_of(alloc: Global, text: &[u8]) -> Result<u64, Fault>
-    requires { length text.now ≤ 2 ^ 26 }
+    requires { length text.now ≤ MAX_JOURNAL_BYTES }
     ensures legal { IfOk result
         (λ entries. audit_answer text.now ≡ Ok (Done.Audited entries)) }
     ensures refused { IfErr result (JudgeRefused text.now) }
@@ -78,7 +77,7 @@ fn entries_of(alloc: Global, text: &[u8]) -> Result<u64, Fault>
     Ok(pool.journal().len() as u64)
 }
 
-/// What is written of a legal journal.
+/// Returns what is written if the journal is legal.
 #[tactic(auto, unfolding(crate::specs::Audit::verdict_text))]
 fn verdict_text(alloc: Global, entries: u64) -> Result<String, Memory>
     ensures { IfOk result (λ text. string_bytes text ≡ verdict_text entries) }

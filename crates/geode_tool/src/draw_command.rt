@@ -1,6 +1,6 @@
 ghost use Rattle.std.specs.Prelude.{◌≡◌, ◌≢◌, ◌≤◌, Err, true, IfOk, IfErr, OnOk};
 ghost use Rattle.span_io.specs.Faults.{Rose};
-ghost use Rattle.geom_core.specs.Coverage.{IsPicture};
+ghost use Rattle.geom_core.specs.Limits.{IsPicture};
 ghost use Rattle.geode_tool.specs.Commands.{AnswersOrFails, may_refuse};
 ghost use Rattle.geode_tool.specs.Draw.{draw_answer, IsPictureText, DrawRefused};
 ghost use Rattle.geode_tool.specs.Outputs.{WritesAll, WritesPrefix};
@@ -12,14 +12,12 @@ use crate::draw_mesh::picture_of;
 use crate::faults::{Done, Fault};
 use crate::picture_texts::picture_text;
 use crate::write_output::write_whole;
+use geom_core::limits::STEPS_PER_UNIT;
 use obj_source::read_obj;
 use span_io::{Sink, Source};
 use std::alloc::Global;
 
-/// How many steps of the grid a unit of a text's coordinates is.
-const STEPS_PER_UNIT: u32 = 1024;
-
-/// Reads the text of a mesh, and writes the rows of its picture.
+/// Reads the text of a mesh and writes the text of its picture.
 pub(crate) fn draw<S: Source, K: Sink>(
     alloc: Global,
     request: &DrawRequest,
@@ -54,7 +52,7 @@ pub(crate) fn draw<S: Source, K: Sink>(
     Ok(Done::Drawn)
 }
 
-/// The text of a request, of the mesh that the input's text lists.
+/// Reads the text of a mesh and returns the text of its picture.
 fn drawn_text<S: Source>(
     alloc: Global,
     request: &DrawRequest,

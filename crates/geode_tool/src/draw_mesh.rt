@@ -1,26 +1,25 @@
-ghost use Rattle.std.specs.Prelude.{◌≡◌, ◌≤◌, ◌*◌, ◌/◌, ◌%◌, ◌<◌, ◌^◌, ℕ, List, ◌++◌, IfOk, length, flat_map};
+ghost use Rattle.std.specs.Prelude.{◌≡◌, ◌≤◌, ◌*◌, ◌/◌, ◌%◌, ◌<◌, ℕ, List, ◌++◌, All, IfOk, length, flat_map};
+ghost use Rattle.geom_core.specs.declared.limits.TheConstants.{MAX_TRIANGLES, TRIANGLES_PER_CLUSTER};
 ghost use Rattle.geom_core.specs.Picture.{drawn, items_of, picture};
-ghost use Rattle.obj_source.specs.SourceTriangles.{IsSourceTriangle, AreSourceTriangles};
-ghost use Rattle.geom_core.specs.Coverage.{IsPicture};
+ghost use Rattle.geom_core.specs.Limits.{HasGridCorners, IsGridTriangle, IsPicture};
 
 use crate::canvases::Canvas;
 use crate::commands::DrawRequest;
+use geom_core::limits::TRIANGLES_PER_CLUSTER;
 use geom_core::{Memory, Tri};
 use raster64::{PixelSink, for_each_word};
 use std::alloc::Global;
 
-/// How many source triangles share a cluster's number.
-const TRIANGLES_PER_CLUSTER: u32 = 128;
-
-/// The picture of the triangles of a mesh without clusters: triangle k is drawn as place `k mod 128` of
-/// cluster `k div 128`. The words stand row by row.
+/// Returns the picture of a mesh without clusters, row by row: the triangle with the number k is drawn as
+/// triangle `k mod TRIANGLES_PER_CLUSTER` of cluster `k div TRIANGLES_PER_CLUSTER`.
 pub(crate) fn picture_of(
     alloc: Global,
     request: &DrawRequest,
     tris: &[Tri],
 ) -> Result<Vec<u64>, Memory>
     requires picture { IsPicture request.now.size }
-    requires mesh { AreSourceTriangles tris.now }
+    requires triangle_limit { length tris.now ≤ MAX_TRIANGLES }
+    requires mesh { All IsGridTriangle tris.now }
     ensures picture { IfOk result
         (λ words. words.items ≡ picture request.now.camera request.now.size (items_of tris.now)) }
     ensures picture_size { IfOk result
@@ -31,10 +30,11 @@ pub(crate) fn picture_of(
     Ok(canvas.into_words())
 }
 
-/// Draws each triangle under its number.
+/// Draws each triangle under its number in the list.
 fn draw_all<T: PixelSink>(request: &DrawRequest, tris: &[Tri], to: &mut T)
     requires picture { IsPicture request.now.size }
-    requires mesh { AreSourceTriangles tris.now }
+    requires triangle_limit { length tris.now ≤ MAX_TRIANGLES }
+    requires mesh { All IsGridTriangle tris.now }
     requires sink_size { request.now.size.width * request.now.size.height ≤ T.pixels to.old }
     ensures { (rest : T.Rest) (before : List (ℕ × ℕ)) → T.shows to.old rest before
         → T.shows to.new rest
@@ -45,16 +45,21 @@ fn draw_all<T: PixelSink>(request: &DrawRequest, tris: &[Tri], to: &mut T)
     }
 }
 
-/// Draws a triangle where all its corners have a spot. One that can't cover a centre isn't projected.
+/// Draws a triangle if none of its corners is nearer than the near plane. A triangle that is off screen is
+/// not projected.
 fn draw_tri<T: PixelSink>(request: &DrawRequest, number: u32, tri: Tri, to: &mut T)
     requires picture { IsPicture request.now.size }
-    requires mesh { IsSourceTriangle tri }
-    requires triangle_number { number < 2 ^ 20 }
+    requires grid_corners { HasGridCorners tri }
+    requires triangle_number { number < MAX_TRIANGLES }
     requires sink_size { request.now.size.width * request.now.size.height ≤ T.pixels to.old }
     ensures same_size { T.pixels to.new ≡ T.pixels to.old }
     ensures shown { (rest : T.Rest) (before : List (ℕ × ℕ)) → T.shows to.old rest before
         → T.shows to.new rest (before ++ drawn request.now.camera request.now.size
-        (record { cluster = number / 128; place = number % 128; tri = tri })) }
+        (record {
+          cluster = number / TRIANGLES_PER_CLUSTER;
+          place = number % TRIANGLES_PER_CLUSTER;
+          tri = tri;
+        })) }
 {
     let DrawRequest { size, camera } = *request;
     let Some(a) = camera.to_view(tri.a) else {

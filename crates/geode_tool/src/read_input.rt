@@ -1,18 +1,17 @@
 ghost use Rattle.std.specs.Prelude.{◌≡◌, ◌<◌, ◌≤◌, ◌^◌, length, vec_len, IfOk, IfErr, OnOk};
+ghost use Rattle.geom_core.specs.declared.limits.TheConstants.{READ_BYTES};
 ghost use Rattle.geode_tool.specs.Texts.{IsText, ReadToEnd, TextRefused};
 
+use geom_core::limits::READ_BYTES;
 use span_io::{Got, Source};
 use std::alloc::{AllocError, Global};
 
-/// The most bytes that are asked for at once.
-const READ_BYTES: usize = 65_536;
-
-/// Why a text wasn't read: the first that holds, in this order. `Memory` may come at any place.
+/// Why a text was not read.
 #[derive(Clone, Copy, Debug, PartialEq, Eq)]
 pub(crate) enum TextFault {
-    /// The source failed before its end, or before the first byte too many.
+    /// The source failed before its end, and before the limit was exceeded.
     Read,
-    /// The text has more bytes than are wanted.
+    /// The text is longer than the limit.
     TooLong,
     /// Memory ran out.
     Memory,
@@ -29,8 +28,8 @@ impl From<AllocError> for TextFault {
     }
 }
 
-/// All that the source has left, where that is at most `most` bytes. Where it is more, only the first
-/// byte too many is read besides.
+/// Reads all bytes that the source has left, if they are at most `most`. Otherwise it reads `most + 1`
+/// bytes and no more.
 pub(crate) fn read_at_most<S: Source>(
     alloc: Global,
     src: &mut S,
@@ -50,14 +49,14 @@ pub(crate) fn read_at_most<S: Source>(
     read_in_pieces(alloc, src, most, &mut piece)
 }
 
-/// Room for one piece.
+/// Returns a buffer for one read.
 fn piece_buffer(alloc: Global) -> Result<Vec<u8>, AllocError>
     ensures { IfOk result (λ piece. vec_len piece ≡ READ_BYTES) }
 {
     vec![in alloc; 0; READ_BYTES]
 }
 
-/// The same as `read_at_most`, in pieces that fit the buffer.
+/// Reads as `read_at_most` does, in pieces that fit the buffer.
 fn read_in_pieces<S: Source>(
     alloc: Global,
     src: &mut S,

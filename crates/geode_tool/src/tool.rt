@@ -16,45 +16,44 @@ use crate::faults::{Done, Fault, UsageKind};
 use span_io::{Sink, Source};
 use std::alloc::Global;
 
-/// Does what a command line asks for: reads the input, and writes the result and nothing else.
+/// Does what a command line asks for: reads the input and writes the result, and nothing else.
 ///
-/// `words` are the command line without the program's name. `draw WIDTH HEIGHT CAMERA` reads an OBJ
-/// text and writes the picture of its triangles as rows of hexadecimal words. `audit` reads the text of
-/// a page pool's journal and writes `legal N`, N the count of its entries, where each was allowed after
-/// those before it. A refusal is the first that holds, in the order of `Fault`.
+/// `words` are the command line without the program's name. `draw WIDTH HEIGHT CAMERA` reads an OBJ text
+/// and writes the picture of its triangles as rows of hexadecimal words. `audit` reads the text of a page
+/// pool's journal and writes `legal N` if each of its N entries was allowed after the entries before it.
 pub fn geode<S: Source, K: Sink>(
     alloc: Global,
     words: &[&str],
     input: &mut S,
     out: &mut K,
 ) -> Result<Done, Fault>
-    // Words that ask for no command are refused, and nothing else is; then nothing is read or written.
+    // `Usage` is returned exactly if the words ask for no command; then nothing is read or written.
     ensures usage { (result ≡ Err (Fault.Usage UsageKind.Line)) ↔ (asked words.now ≡ None) }
     ensures unchanged { asked words.now ≡ None
         → (input.new ≡ input.old) × (out.new ≡ out.old) }
 
-    // A told text has one answer, a success or a refusal, unless reading, writing or memory fails.
+    // An input with known bytes has one answer, unless reading, writing or memory fails.
     ensures answered { IfSome (asked words.now) (λ command.
         AnswersOrFails (answer_of command) (S.left input.old) result) }
 
-    // Success is the command's own; all input was read, and the output is flushed.
+    // Success: it is that of the command, all input was read, and the output is flushed.
     ensures success_kind { IfOk result (λ done. IfSome (asked words.now)
         (λ command. is_own command done ≡ true)) }
     ensures input_read { OnOk result (ReadToEnd (S.left input.old) (S.left input.new)) }
     ensures flushed { OnOk result (K.flushed out.new ≡ true) }
 
-    // `draw`: the picture's text stands behind what was written before.
+    // `draw`: the text of the picture is appended to the output.
     ensures picture { (request : DrawRequest) → asked words.now ≡ Some (Command.Draw request)
         → OnOk result (WritesAll (IsPictureText request (S.left input.old))
         (K.written out.old) (K.written out.new)) }
 
-    // `audit`: the count is that of a legal journal, and the verdict with it stands behind.
+    // `audit`: the number of entries is that of a legal journal, and the verdict is appended.
     ensures audited { (entries : ℕ) → result ≡ Ok (Done.Audited entries)
         → IsAudited (S.left input.old) entries }
     ensures verdict { (entries : ℕ) → result ≡ Ok (Done.Audited entries)
         → Appended (K.written out.old) (K.written out.new) (verdict_text entries) }
 
-    // Each fault has its command and its cause, and all but a failed write leave the output as it was.
+    // Which faults a command may return, what caused them, and what they leave of the output.
     ensures refusals { IfErr result (λ fault. IfSome (asked words.now)
         (λ command. may_refuse command fault ≡ true)) }
     ensures read_fault { result ≡ Err Fault.ReadFault
@@ -66,7 +65,7 @@ pub fn geode<S: Source, K: Sink>(
         (K.written out.old) (K.written out.new)) }
     ensures output_unchanged { IfErr result (λ fault. fault ≢ Fault.WriteFault → out.new ≡ out.old) }
 
-    // Where neither input nor output failed, a told text's answer comes, unless memory ran out.
+    // If neither input nor output failed, the answer is that of the known bytes, or `Memory`.
     ensures complete { (command : Command) (text : List ℕ) → asked words.now ≡ Some command
         → S.left input.old ≡ Some text
         → ¬ (Rose (S.faults input.old) (S.faults input.new))

@@ -5,7 +5,7 @@ ghost use Rattle.span_io.specs.Puts.{Appended};
 use crate::faults::Fault;
 use span_io::{Sink, put_all};
 
-/// Writes all the bytes, and flushes them.
+/// Writes all the bytes and flushes the sink.
 pub(crate) fn write_whole<K: Sink>(out: &mut K, bytes: &[u8]) -> Result<(), Fault>
     ensures output { OnOk result (Appended (K.written out.old) (K.written out.new) bytes.now) }
     ensures flushed { OnOk result (K.flushed out.new ≡ true) }

@@ -1,7 +1,27 @@
-use Rattle.std.proofs.Common.{◌∙◌, refl, rules}
+use Rattle.std.proofs.Common.{◌∙◌, refl, rules, w32}
+use Rattle.std.proofs.lemmas.Int.{to_z-of_z}
 use Rattle.geom_core.specs.Camera.{along}
 use Rattle.geode_tool.proofs.DotFromEye.{axis_product_of_fields, two_fit, three_fit, three_value, three_bound}
+use Rattle.geode_tool.proofs.Ranges.{eye_coordinates, grid_coordinates, is_grid_coordinate_from}
 use Rattle.geode_tool.proofs.cameras.dot_from_eye.Goals as goal
+
+pub axis_product-requires-2-clause-from : goal.axis_product-requires-2-clause-from
+axis_product-requires-2-clause-from c =
+    rw (to_z-of_z w32 c.args.eye.y (search rules)) (eye_coordinates c.args.eye c.requires.eye).y
+
+pub axis_product-requires-2-clause-to : goal.axis_product-requires-2-clause-to
+axis_product-requires-2-clause-to c =
+    rw (to_z-of_z w32 c.args.p.y (search rules))
+    (is_grid_coordinate_from c.args.p.y (grid_coordinates c.args.p c.requires.grid_point).y)
+
+pub axis_product-requires-3-clause-from : goal.axis_product-requires-3-clause-from
+axis_product-requires-3-clause-from c =
+    rw (to_z-of_z w32 c.args.eye.z (search rules)) (eye_coordinates c.args.eye c.requires.eye).z
+
+pub axis_product-requires-3-clause-to : goal.axis_product-requires-3-clause-to
+axis_product-requires-3-clause-to c =
+    rw (to_z-of_z w32 c.args.p.z (search rules))
+    (is_grid_coordinate_from c.args.p.z (grid_coordinates c.args.p c.requires.grid_point).z)
 
 pub overflow_add-result : goal.overflow_add-result
 overflow_add-result c =

@@ -6,7 +6,7 @@ use Rattle.geode_tool.proofs.projections.is_after_last_centre.Goals as goal
 pub returns : goal.returns
 returns c = λ is k within.
     let at = c.args.at in
-    let distance = last_centre c.args.side c.from.result c.from.ensures c.requires.side in
+    let distance = last_centre c.args.side c.half_side.result c.half_side.ensures c.requires.side_limit in
     behind_test c.args.focal c.args.side k at.offset at.depth _ c.scaled.result c.times.result within (record {
       offset_bound = c.requires.view_axis.offset;
       depth_bound = c.requires.view_axis.depth;

@@ -5,4 +5,4 @@ use Rattle.geode_tool.proofs.projections.reversed_depth.Goals as goal
 
 pub returns-clause-reversed : goal.returns-clause-reversed
 unfolding reversed_depth
-returns-clause-reversed c = rw (to_z-of_z w64 c.args.depth c.ranges.depth) refl
+returns-clause-reversed c = rw (c.from.ensures, to_z-of_z w64 c.args.depth c.ranges.depth) refl
