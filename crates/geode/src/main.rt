@@ -1,7 +1,7 @@
-//! The program: it joins the tool to the command line, standard input and standard output.
+//! The program: it connects `geode_tool::geode` to the command line, standard input and standard output.
 //!
-//! A fault's line goes to standard error, and its status is the exit status. What a command writes is
-//! the contract of `geode_tool::geode`.
+//! A fault is one line on standard error, and its status is the exit status. What a command reads and writes
+//! is the contract of `geode_tool::geode`.
 #![tactic(auto)]
 
 use geode_tool::{Done, Fault, UsageKind, geode};
@@ -32,8 +32,8 @@ fn run(rt: &HostRuntime) -> Result<Done, Fault> {
     geode(rt.alloc(), &slices, &mut input, &mut out)
 }
 
-/// The words of the command line without the program's name. Words that aren't UTF-8 have no command's
-/// form.
+/// Returns the words of the command line without the program's name. Words that are not UTF-8 are no
+/// command.
 fn words_of(rt: &HostRuntime) -> Result<Vec<String>, Fault> {
     let mut words = Vec::new(rt.alloc());
     for word in env::args(rt).map_err(words_fault)?.skip(1) {
@@ -42,7 +42,7 @@ fn words_of(rt: &HostRuntime) -> Result<Vec<String>, Fault> {
     Ok(words)
 }
 
-/// The fault that an error of the system's words is: they aren't UTF-8, or there is no memory.
+/// Returns the fault for an error of reading the words: they are not UTF-8, or memory ran out.
 fn words_fault(error: Error) -> Fault {
     match error.kind() {
         ErrorKind::InvalidData => Fault::Usage(UsageKind::Line),

@@ -11,8 +11,8 @@ use Rattle.journal.specs.declared.journals.JournalFault.{JournalFault}
 use Rattle.journal.specs.declared.journals.JournalFault.TheVariants as journal
 use Rattle.residency.specs.declared.pools.ReplayFault.{ReplayFault}
 use Rattle.residency.specs.declared.pools.ReplayFault.TheVariants as replay
-use Rattle.geode_tool.specs.declared.texts.TextFault.{TextFault}
-use Rattle.geode_tool.specs.declared.texts.TextFault.TheVariants as text
+use Rattle.geode_tool.specs.declared.read_input.TextFault.{TextFault}
+use Rattle.geode_tool.specs.declared.read_input.TextFault.TheVariants as text
 use Rattle.geode_tool.specs.declared.faults.Done.{Done}
 use Rattle.geode_tool.specs.declared.faults.Done.TheVariants.{Audited}
 use Rattle.geode_tool.specs.declared.faults.Fault.{Fault}
@@ -85,9 +85,9 @@ text_refused (Err e) input new_input faults new_faults text.Memory becomes refus
     subst (AuditRefused input faults new_faults) (sym becomes.1) tt
 
 -- a fault of the judging, for the input that gave the text
-told : (input : Option (List ℕ)) (text : List ℕ) (fault : Fault) → IsText input text → audit_answer text ≡ Err fault → IfSome input (λ bytes. audit_answer bytes ≡ Err fault)
-told None text fault is refused = tt
-told (Some bytes) text fault is refused = rw is at refused
+known : (input : Option (List ℕ)) (text : List ℕ) (fault : Fault) → IsText input text → audit_answer text ≡ Err fault → IfSome input (λ bytes. audit_answer bytes ≡ Err fault)
+known None text fault is refused = tt
+known (Some bytes) text fault is refused = rw is at refused
 
 pub judge_refused : (r : Result ℕ Fault) (input : Option (List ℕ)) (text : List ℕ) (faults new_faults : ℕ) → IsText input text → IfErr r (JudgeRefused text) → IfErr r (AuditRefused input faults new_faults)
 judge_refused (Ok count) input text faults new_faults is refused = tt
@@ -97,14 +97,14 @@ judge_refused (Err TooLong) input text faults new_faults is refused = absurd ref
 judge_refused (Err (BadObj line why)) input text faults new_faults is refused = absurd refused
 judge_refused (Err TooMany) input text faults new_faults is refused = absurd refused
 judge_refused (Err Empty) input text faults new_faults is refused = absurd refused
-judge_refused (Err (BadJournal line)) input text faults new_faults is refused = told input text (BadJournal line) is refused
-judge_refused (Err (Illegal entry)) input text faults new_faults is refused = told input text (Illegal entry) is refused
+judge_refused (Err (BadJournal line)) input text faults new_faults is refused = known input text (BadJournal line) is refused
+judge_refused (Err (Illegal entry)) input text faults new_faults is refused = known input text (Illegal entry) is refused
 judge_refused (Err WriteFault) input text faults new_faults is refused = absurd refused
 judge_refused (Err Memory) input text faults new_faults is refused = tt
 
 pub answered-audited : (input : Option (List ℕ)) (entries : ℕ) → IsAudited input entries → AnswersOrFails audit_answer input (Ok (Audited entries))
 answered-audited None entries audited = tt
-answered-audited (Some bytes) entries audited = inl (sym (rw audited.told at audited.legal))
+answered-audited (Some bytes) entries audited = inl (sym (rw audited.is_text at audited.legal))
 
 answered-fault : (input : Option (List ℕ)) (faults new_faults : ℕ) (fault : Fault) → AuditRefused input faults new_faults fault → AnswersOrFails audit_answer input (Err fault)
 answered-fault None faults new_faults fault refused = tt

@@ -4,7 +4,7 @@ use Rattle.std.specs.Borrow.{Bor}
 use Rattle.std.proofs.Common.{arith, sym, ◌∙◌, get_or}
 use Rattle.std.proofs.lemmas.List.{length-map}
 use Rattle.geom_core.specs.Camera.{View}
-use Rattle.geode_tool.specs.declared.commands.Drawing.{Drawing}
+use Rattle.geode_tool.specs.declared.commands.DrawRequest.{DrawRequest}
 use Rattle.geode_tool.specs.Words.{draw_words, side, camera}
 
 -- other than four words
@@ -46,22 +46,22 @@ pub draw_words-named : (words : List (Bor (List ℕ))) (is_other : Bool) → 4 �
 unfolding draw_words
 draw_words-named words is_other p q e o = rw (four_words words p q, flipped _ is_other e o) refl
 
-abbrev the_drawing : ℕ → ℕ → View → Drawing
-the_drawing width height view = record { size = record { width = width; height = height }; camera = view }
+abbrev the_request : ℕ → ℕ → View → DrawRequest
+the_request width height view = record { size = record { width = width; height = height }; camera = view }
 
 -- the three values together, where all are there
-abbrev drawing_of : Option ℕ → Option ℕ → Option View → Option Drawing
-drawing_of (Some width) (Some height) (Some view) = Some (the_drawing width height view)
-drawing_of width height view = None
+abbrev request_of : Option ℕ → Option ℕ → Option View → Option DrawRequest
+request_of (Some width) (Some height) (Some view) = Some (the_request width height view)
+request_of width height view = None
 
-together : (width height : Option ℕ) (view : Option View) → drawing_of width height view ≡ option_and_then (λ w. option_and_then (λ h. option_and_then (λ v. Some (the_drawing w h v)) view) height) width
+together : (width height : Option ℕ) (view : Option View) → request_of width height view ≡ option_and_then (λ w. option_and_then (λ h. option_and_then (λ v. Some (the_request w h v)) view) height) width
 together None height view = refl
 together (Some w) None view = refl
 together (Some w) (Some h) None = refl
 together (Some w) (Some h) (Some v) = refl
 
 -- `draw`, and its three values
-pub draw_words-values : (words : List (Bor (List ℕ))) (is_other : Bool) (width height : Option ℕ) (view : Option View) → 4 ≤ length words → length words < 5 → is_other ≡ not (bytes_eq (word words 0) (codes "draw")) → is_other ≡ false → side (word words 1) ≡ width → side (word words 2) ≡ height → camera (word words 3) ≡ view → drawing_of width height view ≡ draw_words (map (λ w. w.now) words)
+pub draw_words-values : (words : List (Bor (List ℕ))) (is_other : Bool) (width height : Option ℕ) (view : Option View) → 4 ≤ length words → length words < 5 → is_other ≡ not (bytes_eq (word words 0) (codes "draw")) → is_other ≡ false → side (word words 1) ≡ width → side (word words 2) ≡ height → camera (word words 3) ≡ view → request_of width height view ≡ draw_words (map (λ w. w.now) words)
 unfolding draw_words
 draw_words-values words is_other width height view p q e o w h v =
     rw (four_words words p q, kept _ is_other e o, w, h, v) (together width height view)

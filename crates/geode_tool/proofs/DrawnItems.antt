@@ -3,6 +3,7 @@ use Rattle.std.proofs.Common.{◌≡◌, ℕ, ◌+◌, ◌<◌, ◌≤◌, ◌/�
 use Rattle.std.specs.Prelude.{flat_map}
 use Rattle.std.specs.List.{enumerate_from}
 use Rattle.std.proofs.lemmas.List.{append-nil, map_push, take_more, flat_map_more, length-take-le}
+use Rattle.geom_core.specs.declared.limits.TheConstants.{TRIANGLES_PER_CLUSTER}
 use Rattle.geom_core.specs.declared.screens.Spot.{Spot}
 use Rattle.geom_core.specs.declared.screens.Size.{Size}
 use Rattle.geom_core.specs.declared.triangles.Tri.{Tri}
@@ -44,15 +45,15 @@ pub drawn-third_hidden : (view : View) (size : Size) (item : Item) (a b : Spot) 
 drawn-third_hidden view size item a b is_a is_b e before =
     after_nothing before (drawn view size item) (drawn_from view size item (Some a) (Some b) None is_a is_b e)
 
-pub drawn-missed : (view : View) (size : Size) (item : Item) (a b c : Spot) →
+pub drawn-off_screen : (view : View) (size : Size) (item : Item) (a b c : Spot) →
     Some a ≡ spot_of view size item.tri.a → Some b ≡ spot_of view size item.tri.b → Some c ≡ spot_of view size item.tri.c →
     words_of a b c item.cluster item.place size ≡ [] → (before : List (ℕ × ℕ)) → before ≡ before ++ drawn view size item
-drawn-missed view size item a b c is_a is_b is_c none before =
+drawn-off_screen view size item a b c is_a is_b is_c none before =
     after_nothing before (drawn view size item) (sym none ∙ drawn-seen view size item a b c is_a is_b is_c)
 
 -- triangle k as place k mod 128 of cluster k div 128
 abbrev pub item_at : ℕ → Tri → Item
-item_at k t = record { cluster = k / 128; place = k % 128; tri = t }
+item_at k t = record { cluster = k / TRIANGLES_PER_CLUSTER; place = k % TRIANGLES_PER_CLUSTER; tri = t }
 
 enumerate_from-push : (n : ℕ) (tris : List Tri) (t : Tri) → enumerate_from n (tris ++ t ∷ []) ≡ enumerate_from n tris ++ (n + length tris, t) ∷ []
 enumerate_from-push n [] t = ap (λ (k : ℕ). (k, t) ∷ []) (sym (add-zero n))

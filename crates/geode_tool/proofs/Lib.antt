@@ -1,4 +1,4 @@
-pub mod Along
+pub mod DotFromEye
 pub mod AuditAnswers
 pub mod AuditExamples
 pub mod Bounds
@@ -10,7 +10,7 @@ pub mod DrawWords
 pub mod DrawnItems
 pub mod Greatest
 pub mod MadeCameras
-pub mod Missed
+pub mod OffScreen
 pub mod NumberParts
 pub mod Numerals
 pub mod OnScreen

@@ -4,12 +4,13 @@ use Rattle.std.proofs.Common.{arith, ap, sym, subst, ◌∙◌, to_z, of_z, w32,
 use Rattle.std.proofs.lemmas.Int.{ints}
 use Rattle.std.proofs.lemmas.List.{get_or-drop, get_or-replicate}
 use Rattle.geom_core.specs.Camera.{Direction}
-use Rattle.geode_tool.specs.declared.cameras.Row.{Row}
+use Rattle.geode_tool.specs.declared.cameras.RotationRow.{RotationRow}
 use Rattle.geode_tool.specs.declared.cameras.Camera.TheInside.{Inside}
 use Rattle.geode_tool.specs.CameraNumbers.{within, ranges, is_outside, first_outside, first_bad, number_at, direction_at, view_of_numbers}
-use Rattle.geode_tool.specs.Rows.{IsRow, direction_of}
+use Rattle.geode_tool.specs.RotationRows.{IsRotationRow, direction_of}
 use Rattle.geode_tool.specs.CameraFields.{IsCamera, view_of}
 use Rattle.geode_tool.proofs.Bounds.{small_stays}
+use Rattle.geode_tool.proofs.Ranges.{is_eye_from}
 
 -- a test that comes before others finds nothing, and they don't
 none_of : (b : Bool) (k : ℕ) (o : Option ℕ) → cond b (Some k) o ≡ None → (b ≡ false) × (o ≡ None)
@@ -90,7 +91,7 @@ natural n = unsigned_abs (to_z w64 (of_z w64 n))
 abbrev coordinate : ℤ → ℤ
 coordinate n = to_z w32 (of_z w32 (to_z w64 (of_z w64 n)))
 
-abbrev made : List ℤ → Row → Row → Row → Inside
+abbrev made : List ℤ → RotationRow → RotationRow → RotationRow → Inside
 made ns right down forward = record {
   focal = natural (number_at ns 0);
   near = natural (number_at ns 1);
@@ -107,7 +108,7 @@ natural_is n most p q r = ap unsigned_abs (small_stays n most (omega (arith, int
 coordinate_is : (n : ℤ) → unsigned_abs n ≤ 2 ^ 24 → coordinate n ≡ n
 coordinate_is n p = omega (arith, ints)
 
-pub view_of-made : (ns : List ℤ) (right down forward : Row) → InRange ns → direction_of right ≡ direction_at ns 6 → direction_of down ≡ direction_at ns 9 → direction_of forward ≡ direction_at ns 12 → view_of (made ns right down forward) ≡ view_of_numbers ns
+pub view_of-made : (ns : List ℤ) (right down forward : RotationRow) → InRange ns → direction_of right ≡ direction_at ns 6 → direction_of down ≡ direction_at ns 9 → direction_of forward ≡ direction_at ns 12 → view_of (made ns right down forward) ≡ view_of_numbers ns
 unfolding view_of_numbers
 view_of-made ns right down forward r e f g =
     let focal = natural_is (number_at ns 0) 4096 (omega (arith, ints)) r.focal_high (lit< tt) in
@@ -119,7 +120,7 @@ view_of-made ns right down forward r e f g =
     rw (focal, near, tolerance, x, y, z, e, f, g) refl
 
 -- the entries of a row that begins at a place
-row_is : (ns : List ℤ) (row : Row) (place : ℕ) → InRange ns → 6 ≤ place → place ≤ 12 → direction_of row ≡ direction_at ns place → IsRow row
+row_is : (ns : List ℤ) (row : RotationRow) (place : ℕ) → InRange ns → 6 ≤ place → place ≤ 12 → direction_of row ≡ direction_at ns place → IsRotationRow row
 row_is ns row place r p q e =
     let x : row.x ≡ number_at ns place = ap (λ (d : Direction). d.x) e in
     let y : row.y ≡ number_at ns (place + 1) = ap (λ (d : Direction). d.y) e in
@@ -130,7 +131,7 @@ row_is ns row place r p q e =
       z = rw z (r.rows (place + 2) (omega arith) (omega arith));
     }
 
-pub IsCamera-made : (ns : List ℤ) (right down forward : Row) → InRange ns → direction_of right ≡ direction_at ns 6 → direction_of down ≡ direction_at ns 9 → direction_of forward ≡ direction_at ns 12 → IsCamera (made ns right down forward)
+pub IsCamera-made : (ns : List ℤ) (right down forward : RotationRow) → InRange ns → direction_of right ≡ direction_at ns 6 → direction_of down ≡ direction_at ns 9 → direction_of forward ≡ direction_at ns 12 → IsCamera (made ns right down forward)
 IsCamera-made ns right down forward r e f g =
     let focal = natural_is (number_at ns 0) 4096 (omega (arith, ints)) r.focal_high (lit< tt) in
     let near = natural_is (number_at ns 1) (2 ^ 34) (omega (arith, ints)) r.near_high (lit< tt) in
@@ -141,11 +142,11 @@ IsCamera-made ns right down forward r e f g =
       near_low = rw near (omega (arith, ints));
       near_high = rw near (omega (arith, ints));
       tolerance_high = rw tolerance (omega (arith, ints));
-      eye = record {
+      eye = is_eye_from (made ns right down forward).eye (record {
         x = rw (coordinate_is (number_at ns 3) r.eye_x) r.eye_x;
         y = rw (coordinate_is (number_at ns 4) r.eye_y) r.eye_y;
         z = rw (coordinate_is (number_at ns 5) r.eye_z) r.eye_z;
-      };
+      });
       right = row_is ns right 6 r (lit≤ tt) (lit≤ tt) e;
       down = row_is ns down 9 r (lit≤ tt) (lit≤ tt) f;
       forward = row_is ns forward 12 r (lit≤ tt) (lit≤ tt) g;

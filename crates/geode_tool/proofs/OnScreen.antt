@@ -81,8 +81,10 @@ behind_test focal side k offset depth distance n m within p e test =
     from_product focal side k offset depth distance within p.far e (is_from _ _ from)
 
 -- the two distances, as the code has them
-pub first_centre : (side : ℕ) (s : ℤ) → s ≡ pos side → side ≤ 512 → to_z w64 (of_z w64 (pos 9 -ℤ to_z w64 (of_z w64 (pos 8 *ℤ to_z w64 (of_z w64 s))))) ≡ pos 9 -ℤ pos (8 * side)
+pub first_centre : (side : ℕ) (s : ℤ) → s ≡ pos (8 * side) → side ≤ 512 →
+    to_z w64 (of_z w64 (pos 9 -ℤ to_z w64 (of_z w64 s))) ≡ pos 9 -ℤ pos (8 * side)
 first_centre side s e h = omega (arith, ints)
 
-pub last_centre : (side : ℕ) (s : ℤ) → s ≡ pos side → side ≤ 512 → to_z w64 (of_z w64 (to_z w64 (of_z w64 (pos 8 *ℤ to_z w64 (of_z w64 s))) -ℤ pos 7)) ≡ pos (8 * side) -ℤ pos 7
+pub last_centre : (side : ℕ) (s : ℤ) → s ≡ pos (8 * side) → side ≤ 512 →
+    to_z w64 (of_z w64 (to_z w64 (of_z w64 (to_z w64 (of_z w64 s) -ℤ pos 8)) +ℤ pos 1)) ≡ pos (8 * side) -ℤ pos 7
 last_centre side s e h = omega (arith, ints)

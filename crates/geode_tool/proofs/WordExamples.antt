@@ -1,7 +1,7 @@
 -- Worked examples of the words of `draw`, computed by the checker.
 use Rattle.std.specs.Prelude.{◌≡◌, ℕ, ◌∷◌, [], List, Some, None, pos, negsuc, codes, refl}
 use Rattle.geom_core.specs.Camera.{View}
-use Rattle.geode_tool.specs.declared.commands.Drawing.{Drawing}
+use Rattle.geode_tool.specs.declared.commands.DrawRequest.{DrawRequest}
 use Rattle.geode_tool.specs.CameraNumbers.{first_bad, view_of_numbers}
 use Rattle.geode_tool.specs.Words.{whole_number, signed_number, side, camera, draw_words}
 
@@ -23,7 +23,7 @@ looking_down = record {
   forward = record { x = pos 0; y = negsuc 16383; z = pos 0 };
 }
 
-abbrev four_by_four : Drawing
+abbrev four_by_four : DrawRequest
 four_by_four = record { size = record { width = 4; height = 4 }; camera = looking_down }
 
 pub draw_words-four : draw_words (draw ∷ codes "4" ∷ codes "4" ∷ from_above ∷ []) ≡ Some four_by_four

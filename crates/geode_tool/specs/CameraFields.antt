@@ -1,21 +1,22 @@
--- What the fields of a camera mean, and what holds of them.
-use Rattle.std.specs.Prelude.{◌≤◌, ◌^◌}
+-- The ranges of a camera's fields, and the camera that they are.
+use Rattle.std.specs.Prelude.{◌≤◌}
+use Rattle.geom_core.specs.declared.limits.TheConstants.{MAX_FOCAL, MIN_NEAR, MAX_NEAR, MAX_TOLERANCE}
 use Rattle.geom_core.specs.Camera.{View}
-use Rattle.geode_tool.specs.CameraNumbers.{IsWithin}
-use Rattle.geode_tool.specs.Rows.{IsRow, direction_of, row_of}
+use Rattle.geom_core.specs.Limits.{IsEye}
+use Rattle.geode_tool.specs.RotationRows.{IsRotationRow, direction_of, row_of}
 use Rattle.geode_tool.specs.declared.cameras.Camera.TheInside.{Inside}
 
 -- the ranges of a camera's fields
 pub record IsCamera (c : Inside) : Type 0 where
   pub focal_low : 1 ≤ c.focal
-  pub focal_high : c.focal ≤ 4096
-  pub near_low : 16384 ≤ c.near
-  pub near_high : c.near ≤ 2 ^ 34
-  pub tolerance_high : c.tolerance ≤ 65535
-  pub eye : IsWithin (2 ^ 24) c.eye
-  pub right : IsRow c.right
-  pub down : IsRow c.down
-  pub forward : IsRow c.forward
+  pub focal_high : c.focal ≤ MAX_FOCAL
+  pub near_low : MIN_NEAR ≤ c.near
+  pub near_high : c.near ≤ MAX_NEAR
+  pub tolerance_high : c.tolerance ≤ MAX_TOLERANCE
+  pub eye : IsEye c.eye
+  pub right : IsRotationRow c.right
+  pub down : IsRotationRow c.down
+  pub forward : IsRotationRow c.forward
 
 abbrev pub view_of : Inside → View
 view_of c = record {

@@ -1,4 +1,4 @@
--- What each command answers, writes and may refuse.
+-- The answer of each command, what it writes, and which faults it may return.
 use Rattle.std.specs.Prelude.{◌≡◌, ◌⊎◌, ℕ, List, map, Bool, true, false, IsTrue, Option, IfSome, Result, Ok, Err}
 use Rattle.std.specs.Borrow.{Bor}
 use Rattle.geode_tool.specs.declared.commands.Command.{Command}
@@ -8,16 +8,16 @@ use Rattle.geode_tool.specs.declared.faults.Done.TheVariants.{Drawn, Audited}
 use Rattle.geode_tool.specs.declared.faults.Fault.{Fault}
 use Rattle.geode_tool.specs.declared.faults.Fault.TheVariants.{Usage, ReadFault, TooLong, BadObj, TooMany, Empty, BadJournal, Illegal, WriteFault, Memory}
 use Rattle.geode_tool.specs.Audit.{audit_answer, IsVerdict}
-use Rattle.geode_tool.specs.Draw.{draw_answer, IsDrawn}
+use Rattle.geode_tool.specs.Draw.{draw_answer, IsPictureText}
 use Rattle.geode_tool.specs.Words.{command_words}
 
 -- the command that the words ask for, if they ask for one
 abbrev pub asked : List (Bor (List ℕ)) → Option Command
 asked words = command_words (map (λ w. w.now) words)
 
--- what a command answers for a text
+-- the answer of a command for a text
 abbrev pub answer_of : Command → List ℕ → Result Done Fault
-answer_of (Draw drawing) text = draw_answer text
+answer_of (Draw request) text = draw_answer text
 answer_of Audit text = audit_answer text
 
 -- a read or a write failed, or memory ran out
@@ -34,36 +34,36 @@ has_failed (Err (Illegal entry)) = false
 has_failed (Err WriteFault) = true
 has_failed (Err Memory) = true
 
--- for an input that tells its text: the answer is the text's, or something failed
+-- if the input's bytes are known: the answer is that of the bytes, or something failed
 abbrev pub AnswersOrFails : (List ℕ → Result Done Fault) → Option (List ℕ) → Result Done Fault → Type 0
 AnswersOrFails answer input result = IfSome input (λ text. (result ≡ answer text) ⊎ IsTrue (has_failed result))
 
--- which success is a command's own
+-- whether the success is of the command
 abbrev pub is_own : Command → Done → Bool
-is_own (Draw drawing) Drawn = true
-is_own (Draw drawing) (Audited entries) = false
+is_own (Draw request) Drawn = true
+is_own (Draw request) (Audited entries) = false
 is_own Audit Drawn = false
 is_own Audit (Audited entries) = true
 
--- which faults may come in a command, once its words are taken
+-- whether a command may return the fault
 abbrev pub may_refuse : Command → Fault → Bool
 may_refuse command (Usage kind) = false
 may_refuse command ReadFault = true
 may_refuse command TooLong = true
-may_refuse (Draw drawing) (BadObj line why) = true
+may_refuse (Draw request) (BadObj line why) = true
 may_refuse Audit (BadObj line why) = false
-may_refuse (Draw drawing) TooMany = true
+may_refuse (Draw request) TooMany = true
 may_refuse Audit TooMany = false
-may_refuse (Draw drawing) Empty = true
+may_refuse (Draw request) Empty = true
 may_refuse Audit Empty = false
-may_refuse (Draw drawing) (BadJournal line) = false
+may_refuse (Draw request) (BadJournal line) = false
 may_refuse Audit (BadJournal line) = true
-may_refuse (Draw drawing) (Illegal entry) = false
+may_refuse (Draw request) (Illegal entry) = false
 may_refuse Audit (Illegal entry) = true
 may_refuse command WriteFault = true
 may_refuse command Memory = true
 
 -- the text that a command writes for an input
 abbrev pub IsOutput : Command → Option (List ℕ) → List ℕ → Type 0
-IsOutput (Draw drawing) input text = IsDrawn drawing input text
+IsOutput (Draw request) input text = IsPictureText request input text
 IsOutput Audit input text = IsVerdict input text

@@ -1,16 +1,16 @@
--- The faults of the tool that a fault of its parts becomes.
+-- The fault of the tool that a fault of another crate becomes.
 use Rattle.obj_source.specs.declared.faults.ObjFault.{ObjFault}
 use Rattle.obj_source.specs.declared.faults.ObjFault.TheVariants as obj
 use Rattle.journal.specs.declared.journals.JournalFault.{JournalFault}
 use Rattle.journal.specs.declared.journals.JournalFault.TheVariants as journal
 use Rattle.residency.specs.declared.pools.ReplayFault.{ReplayFault}
 use Rattle.residency.specs.declared.pools.ReplayFault.TheVariants as replay
-use Rattle.geode_tool.specs.declared.texts.TextFault.{TextFault}
-use Rattle.geode_tool.specs.declared.texts.TextFault.TheVariants as text
+use Rattle.geode_tool.specs.declared.read_input.TextFault.{TextFault}
+use Rattle.geode_tool.specs.declared.read_input.TextFault.TheVariants as text
 use Rattle.geode_tool.specs.declared.faults.Fault.{Fault}
 use Rattle.geode_tool.specs.declared.faults.Fault.TheVariants.{ReadFault, TooLong, BadObj, TooMany, Empty, BadJournal, Illegal, Memory}
 
--- of the reading of a mesh
+-- from reading a mesh
 abbrev pub fault_of_obj : ObjFault → Fault
 fault_of_obj (obj.Line line why) = BadObj line why
 fault_of_obj obj.TooMany = TooMany
@@ -19,18 +19,18 @@ fault_of_obj obj.Empty = Empty
 fault_of_obj obj.Read = ReadFault
 fault_of_obj obj.Memory = Memory
 
--- of the reading of a whole text
+-- from reading a whole text
 abbrev pub fault_of_text : TextFault → Fault
 fault_of_text text.Read = ReadFault
 fault_of_text text.TooLong = TooLong
 fault_of_text text.Memory = Memory
 
--- of the lines of a journal
+-- from reading a journal
 abbrev pub fault_of_journal : JournalFault → Fault
 fault_of_journal (journal.Line line) = BadJournal line
 fault_of_journal journal.Memory = Memory
 
--- of the entries of a journal
+-- from replaying a journal
 abbrev pub fault_of_replay : ReplayFault → Fault
 fault_of_replay (replay.Illegal entry) = Illegal entry
 fault_of_replay replay.Memory = Memory

@@ -7,7 +7,7 @@ pub mod Faults
 pub mod Outputs
 pub mod PictureText
 pub mod Projections
-pub mod Rows
+pub mod RotationRows
 pub mod Statuses
 pub mod Texts
 pub mod ViewPoints

@@ -1,32 +1,34 @@
--- Where an offset at a depth is seen along one side of a picture, and on which side of the centres of its
--- pixels.
-use Rattle.std.specs.Prelude.{◌<◌, ◌≤◌, ◌+◌, ◌*◌, ◌⊎◌, ℕ, ℤ, pos, ◌+ℤ◌, ◌<ℤ◌, ◌≤ℤ◌, unsigned_abs}
+-- The screen coordinate of a point along one side of a picture, and whether it is before the first or after the
+-- last pixel centre.
+use Rattle.std.specs.Prelude.{◌<◌, ◌≤◌, ◌+◌, ◌*◌, ◌/◌, ◌⊎◌, ℕ, ℤ, pos, ◌+ℤ◌, ◌<ℤ◌, ◌≤ℤ◌, unsigned_abs}
+use Rattle.geom_core.specs.declared.limits.TheConstants.{SUBPIXELS, MIN_NEAR, MAX_DOT}
 use Rattle.geom_core.specs.Camera.{on_screen}
-use Rattle.geode_tool.specs.declared.projections.Aim.{Aim}
+use Rattle.geode_tool.specs.declared.projections.ViewAxis.{ViewAxis}
 
--- an offset and a depth that a point of the grid can have, no nearer than any near depth
-pub record IsAim (at : Aim) : Type 0 where
-  pub offset : unsigned_abs at.offset ≤ 876173328384
-  pub depth : unsigned_abs at.depth ≤ 876173328384
-  pub far : pos 16384 ≤ℤ at.depth
+-- an offset and a depth of a mesh point that is no nearer than the nearest near plane
+pub record IsViewAxis (at : ViewAxis) : Type 0 where
+  pub offset : unsigned_abs at.offset ≤ MAX_DOT
+  pub depth : unsigned_abs at.depth ≤ MAX_DOT
+  pub far : pos MIN_NEAR ≤ℤ at.depth
 
--- the sixteenths of a pixel from the picture's edge
-abbrev pub place_of : ℕ → ℕ → Aim → ℤ
-place_of focal side at = pos (8 * side) +ℤ on_screen focal at.offset at.depth
+-- the screen coordinate, in sixteenths of a pixel from the picture's edge
+abbrev pub screen_coordinate : ℕ → ℕ → ViewAxis → ℤ
+screen_coordinate focal side at = pos (SUBPIXELS / 2 * side) +ℤ on_screen focal at.offset at.depth
 
--- the centre of row or column k
+-- the centre of the pixels of row or column k
 abbrev pub centre : ℕ → ℤ
-centre k = pos (16 * k + 8)
+centre k = pos (SUBPIXELS * k + SUBPIXELS / 2)
 
--- no centre of the side lies before the place
-abbrev pub IsBefore : ℕ → ℤ → Type 0
-IsBefore side place = (k : ℕ) → k < side → place ≤ℤ centre k
+-- no pixel centre of the side is before the coordinate
+abbrev pub IsBeforeFirstCentre : ℕ → ℤ → Type 0
+IsBeforeFirstCentre side place = (k : ℕ) → k < side → place ≤ℤ centre k
 
--- all centres of the side lie before the place
-abbrev pub IsBehind : ℕ → ℤ → Type 0
-IsBehind side place = (k : ℕ) → k < side → centre k <ℤ place
+-- all pixel centres of the side are before the coordinate
+abbrev pub IsAfterLastCentre : ℕ → ℤ → Type 0
+IsAfterLastCentre side place = (k : ℕ) → k < side → centre k <ℤ place
 
--- three places lie on one side of all centres
-abbrev pub IsBeside : ℕ → ℤ → ℤ → ℤ → Type 0
-IsBeside side a b c =
-    (IsBefore side a × IsBefore side b × IsBefore side c) ⊎ (IsBehind side a × IsBehind side b × IsBehind side c)
+-- three coordinates are on one side of all pixel centres
+abbrev pub AreOffOneSide : ℕ → ℤ → ℤ → ℤ → Type 0
+AreOffOneSide side a b c =
+    (IsBeforeFirstCentre side a × IsBeforeFirstCentre side b × IsBeforeFirstCentre side c)
+    ⊎ (IsAfterLastCentre side a × IsAfterLastCentre side b × IsAfterLastCentre side c)

@@ -3,7 +3,7 @@ use Rattle.std.specs.Prelude.{ℕ}
 use Rattle.geode_tool.specs.declared.faults.Fault.{Fault}
 use Rattle.geode_tool.specs.declared.faults.Fault.TheVariants.{Usage, ReadFault, TooLong, BadObj, TooMany, Empty, BadJournal, Illegal, WriteFault, Memory}
 
--- no fault has the status of success, 0
+-- the status of a fault; 0 is the status of success
 abbrev pub status_of : Fault → ℕ
 status_of Memory = 2
 status_of (Usage kind) = 3

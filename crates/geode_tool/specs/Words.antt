@@ -1,45 +1,42 @@
--- The words of the commands: `draw` with the picture's width and height and the camera, and `audit` alone.
+-- The words of the commands: `draw` with a width, a height and a camera, and `audit` alone.
 use Rattle.std.specs.Prelude.{◌==◌, ◌&&◌, ℕ, ℤ, pos, neg_ℤ, nat_lt, nat_le, Bool, false, List, [], ◌∷◌, length, drop, slice_index, Option, Some, None, option_map, option_and_then, is_none, bytes_eq, codes, if◌then◌else◌}
 use Rattle.std.specs.List.{slice_split, list_all}
 use Rattle.std.specs.Char.{is_ascii_digit}
 use Rattle.std.specs.Str.{byte}
 use Rattle.std.specs.Str.Parse.{digits_value}
 use Rattle.geom_core.specs.Camera.{View}
+use Rattle.geom_core.specs.Limits.{is_side}
 use Rattle.geode_tool.specs.declared.commands.Command.{Command}
 use Rattle.geode_tool.specs.declared.commands.Command.TheVariants.{Draw, Audit}
-use Rattle.geode_tool.specs.declared.commands.Drawing.{Drawing}
+use Rattle.geode_tool.specs.declared.commands.DrawRequest.{DrawRequest}
 use Rattle.geode_tool.specs.CameraNumbers.{first_bad, view_of_numbers}
 
 infixl 10 ◌>>=◌
 abbrev pub ◌>>=◌ : {A B : Type 0} → Option A → (A → Option B) → Option B
 o >>= f = option_and_then f o
 
--- 1 to `most` digits; zeros may stand first
+-- 1 to `most` digits, leading zeros included
 abbrev pub is_numeral : ℕ → List ℕ → Bool
 is_numeral most bs = nat_lt 0 (length bs) && nat_le (length bs) most && list_all is_ascii_digit bs
 
--- the value that the digits write
+-- the value of the digits
 unfoldable pub whole_number : ℕ → List ℕ → Option ℕ
 whole_number most bs = if is_numeral most bs then Some (digits_value 10 bs) else None
 
--- the same of a number that may have `-` before its digits
+-- the value of digits with an optional `-` before them
 unfoldable pub signed_number : ℕ → List ℕ → Option ℤ
 signed_number most bs =
     if slice_index bs 0 == byte "-"
     then option_map (λ n. neg_ℤ (pos n)) (whole_number most (drop 1 bs))
     else option_map pos (whole_number most bs)
 
--- a picture has 1 to 512 columns and rows
-abbrev pub is_side : ℕ → Bool
-is_side n = nat_le 1 n && nat_le n 512
-
--- the columns or the rows of a picture
+-- the number of columns or rows of a picture
 unfoldable pub side : List ℕ → Option ℕ
 side bs = do
   n ← whole_number 10 bs
   if is_side n then Some n else None
 
--- the number of each part
+-- the number of each part between commas
 abbrev pub numbers_of : List (List ℕ) → Option (List ℤ)
 numbers_of [] = Some []
 numbers_of (part ∷ parts) = do
@@ -47,18 +44,18 @@ numbers_of (part ∷ parts) = do
   ns ← numbers_of parts
   Some (n ∷ ns)
 
--- the numbers, where they are fifteen
+-- the numbers, if they are fifteen
 abbrev pub fifteen : Option (List ℤ) → Option (List ℤ)
 fifteen numbers = numbers >>= (λ ns. if length ns == 15 then Some ns else None)
 
--- the camera of fifteen numbers between commas, each in its range
+-- the camera of fifteen numbers separated by commas, each in its range
 unfoldable pub camera : List ℕ → Option View
 camera bs = do
   ns ← fifteen (numbers_of (slice_split (λ b. b == byte ",") bs))
   if is_none (first_bad ns) then Some (view_of_numbers ns) else None
 
--- what the words ask to draw, where they are `draw` and the three others
-unfoldable pub draw_words : List (List ℕ) → Option Drawing
+-- the arguments of `draw`, if the words are `draw` and three more
+unfoldable pub draw_words : List (List ℕ) → Option DrawRequest
 draw_words (name ∷ width ∷ height ∷ numbers ∷ []) =
     if bytes_eq name (codes "draw")
     then (do

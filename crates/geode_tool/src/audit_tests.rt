@@ -2,7 +2,7 @@ use crate::tests::{Calls, SOUND, run};
 use crate::{Done, Fault};
 use std::test::Fail;
 
-/// Two pages are loaded, the second after its upper.
+/// Two pages are loaded, the second after the page that it depends on.
 const LOADED: &str = "layout 3 1 3\n\
     upper 1 0\n\
     upper 2 0 1\n\
@@ -13,7 +13,7 @@ const LOADED: &str = "layout 3 1 3\n\
     0 take 0 2 -\n\
     0 install 2 0000000000000000000000000000000000000000000000000000000000000000\n";
 
-/// The second is taken before its upper is resident.
+/// The second page is taken before the page that it depends on is resident.
 const TOO_SOON: &str = "layout 3 1 3\n\
     upper 1 0\n\
     upper 2 0 1\n\
@@ -21,7 +21,7 @@ const TOO_SOON: &str = "layout 3 1 3\n\
     0 settle 0 pages 0 missing 1 2\n\
     0 take 0 2 -\n";
 
-/// All slots are used, and another frame wants one page more.
+/// All slots are used, and another frame wants one more page.
 const CROWDED: &str = "layout 6 1 5\n\
     upper 1 0\n\
     upper 2 0 1\n\
@@ -44,7 +44,7 @@ const CROWDED: &str = "layout 6 1 5\n\
     1 pin 1\n\
     1 settle 1 pages 0 missing 5\n";
 
-/// A report: what it says of a frame stands in lines that begin with `#`.
+/// A report of a play: the lines about a frame begin with `#`.
 const REPORT: &str =
     "# frame 0 at 1 resident 0 missing - nodes 1 lit 1 sha256 0000000000000000000000000000000000000000000000000000000000000000\n\
     # cut 0\n\
@@ -62,9 +62,9 @@ fn legal_journals_are_counted(rt: HostRuntime) -> Result<(), Fail> {
     let last_taken = format!(in alloc; "{CROWDED}1 take 1 5 4")?;
     let cases = [
         ("a layout alone", "layout 1 1 1", 0, "legal 0\n"),
-        ("pages after their uppers", LOADED, 6, "legal 6\n"),
+        ("pages after their dependencies", LOADED, 6, "legal 6\n"),
         (
-            "the page named longest ago is evicted",
+            "the least recently used page is evicted",
             last_taken.as_str(),
             16,
             "legal 16\n",
@@ -80,9 +80,9 @@ fn legal_journals_are_counted(rt: HostRuntime) -> Result<(), Fail> {
 }
 
 #[test]
-fn the_first_fault_is_named(rt: HostRuntime) -> Result<(), Fail> {
+fn the_first_fault_is_reported(rt: HostRuntime) -> Result<(), Fail> {
     let alloc = rt.alloc();
-    let named_later = format!(in alloc; "{CROWDED}1 take 1 5 2")?;
+    let used_later = format!(in alloc; "{CROWDED}1 take 1 5 2")?;
     let pinned = format!(in alloc; "{CROWDED}1 take 1 5 3")?;
     let no_victim = format!(in alloc; "{CROWDED}1 take 1 5 -")?;
     let line_8 = format!(in alloc; "{REPORT}0 pins 0")?;
@@ -99,7 +99,7 @@ fn the_first_fault_is_named(rt: HostRuntime) -> Result<(), Fail> {
             Fault::BadJournal { line: 8 },
         ),
         (
-            "a wrong line behind a wrong entry",
+            "a wrong line after a wrong entry",
             "layout 2 1 2\n0 stop\n0 stop\nstop",
             Fault::BadJournal { line: 4 },
         ),
@@ -109,8 +109,8 @@ fn the_first_fault_is_named(rt: HostRuntime) -> Result<(), Fail> {
             Fault::Illegal { entry: 2 },
         ),
         (
-            "a victim named later",
-            named_later.as_str(),
+            "a victim that was used later",
+            used_later.as_str(),
             Fault::Illegal { entry: 15 },
         ),
         (

@@ -1,80 +1,82 @@
-ghost use Rattle.std.specs.Prelude.{◌≡◌, ◌+◌, ◌^◌, ◌≤◌, ◌<◌, ◌*ℤ◌, ◌-ℤ◌, ℕ, true, [], unsigned_abs};
+ghost use Rattle.std.specs.Prelude.{◌≡◌, ◌+◌, ◌*◌, ◌≤◌, ◌<◌, ◌*ℤ◌, ◌-ℤ◌, ℕ, true, [], unsigned_abs};
 ghost use Rattle.std.specs.Prelude.{IfSome, option_map};
+ghost use Rattle.geom_core.specs.declared.limits.TheConstants.{ROTATION_ONE, MAX_EYE, MAX_COORDINATE, MAX_DOT};
 ghost use Rattle.geom_core.specs.Camera.{along, spot_of};
-ghost use Rattle.geom_core.specs.Coverage.{IsPicture, words_of};
+ghost use Rattle.geom_core.specs.Coverage.{words_of};
+ghost use Rattle.geom_core.specs.Limits.{IsEye, IsGridCoordinate, IsGridPoint, IsPicture, IsSpot};
 ghost use Rattle.geode_tool.specs.CameraNumbers.{first_bad, is_outside, view_of_numbers, number_at};
-ghost use Rattle.geode_tool.specs.CameraNumbers.{direction_at, IsWithin, IsSeen};
-ghost use Rattle.geode_tool.specs.Rows.{IsRow, direction_of};
-ghost use Rattle.geode_tool.specs.ViewPoints.{spot_at, IsBeyond};
+ghost use Rattle.geode_tool.specs.CameraNumbers.{direction_at};
+ghost use Rattle.geode_tool.specs.RotationRows.{IsRotationRow, direction_of};
+ghost use Rattle.geode_tool.specs.ViewPoints.{spot_at, IsBeyondNear};
 
-use crate::projections::{Aim, is_beside, middle, on_screen, reversed_depth};
+use crate::projections::{ViewAxis, all_off_one_side, half_side, project_axis, reversed_depth};
+use geom_core::limits::{MAX_EYE, MAX_FOCAL, MAX_NEAR, MAX_TOLERANCE, MIN_NEAR, ROTATION_ONE};
 use geom_core::{Lens, Pt, Size, Spot};
 use std::marker::Model;
 
-/// Where an eye may stand, on each axis.
-const EYE: (i64, i64) = (-16_777_216, 16_777_216);
+/// The range of the eye's position on each axis, in grid steps.
+const EYE_RANGE: (i64, i64) = (-(MAX_EYE as i64), MAX_EYE as i64);
 
-/// The entries of a rotation, in 1/16,384.
-const ENTRY: (i64, i64) = (-16_384, 16_384);
+/// The range of an entry of the rotation, in 1/`ROTATION_ONE`.
+const ROTATION_RANGE: (i64, i64) = (-(ROTATION_ONE as i64), ROTATION_ONE as i64);
 
-/// The least and the greatest that each of a camera's numbers may be, in their order.
+/// The least and the greatest value of each of a camera's numbers, in the order of the numbers.
 const RANGES: [(i64, i64); 15] = [
-    (1, 4_096),
-    (16_384, 17_179_869_184),
-    (0, 65_535),
-    EYE,
-    EYE,
-    EYE,
-    ENTRY,
-    ENTRY,
-    ENTRY,
-    ENTRY,
-    ENTRY,
-    ENTRY,
-    ENTRY,
-    ENTRY,
-    ENTRY,
+    (1, MAX_FOCAL as i64),
+    (MIN_NEAR as i64, MAX_NEAR as i64),
+    (0, MAX_TOLERANCE as i64),
+    EYE_RANGE,
+    EYE_RANGE,
+    EYE_RANGE,
+    ROTATION_RANGE,
+    ROTATION_RANGE,
+    ROTATION_RANGE,
+    ROTATION_RANGE,
+    ROTATION_RANGE,
+    ROTATION_RANGE,
+    ROTATION_RANGE,
+    ROTATION_RANGE,
+    ROTATION_RANGE,
 ];
 
-/// Numbers that are no camera's.
+/// The error for numbers that describe no camera.
 #[derive(Clone, Copy, Debug, PartialEq, Eq)]
 pub(crate) struct BadCamera {
-    /// The place, from 0, of the first number that is out of its range.
+    /// The index, from 0, of the first number that is out of its range.
     pub(crate) field: u8,
 }
 
-/// A row of the rotation that turns the mesh's axes to the camera's, in 1/16,384.
+/// A row of the rotation from the mesh's axes to the camera's axes: a direction, in 1/`ROTATION_ONE`.
 #[derive(Clone, Copy, Debug, PartialEq, Eq)]
-struct Row {
+struct RotationRow {
     x: i32,
     y: i32,
     z: i32,
 }
 
-/// A point in a camera's own axes, from its eye, in 1/16,384 of a coordinate.
+/// A view-space point: its offset from the eye in the camera's axes, in grid steps times `ROTATION_ONE`.
 #[derive(Clone, Copy, Debug, PartialEq, Eq)]
 pub(crate) struct ViewPoint {
-    /// How far it lies to the right.
+    /// The distance to the right of the eye.
     pub(crate) right: i64,
-    /// How far it lies down.
+    /// The distance below the eye.
     pub(crate) down: i64,
-    /// How far it lies ahead.
+    /// The distance ahead of the eye.
     pub(crate) depth: i64,
 }
 
-/// A camera: where it stands, how it is turned, and how finely it sees.
+/// A pinhole camera over whole numbers: position, rotation, focal length, near plane and error tolerance.
 ///
-/// It is a pinhole camera, and all its numbers are whole. The rows of its rotation aren't tested for
-/// being one: what they turn the axes to is what is seen.
+/// The three rows are not checked to be a rotation: a picture is defined for any rows, skewed ones too.
 #[derive(Clone, Copy, Debug, PartialEq, Eq)]
 pub(crate) struct Camera {
     focal: u32,
     near: u64,
     tolerance: u32,
     eye: Pt,
-    right: Row,
-    down: Row,
-    forward: Row,
+    right: RotationRow,
+    down: RotationRow,
+    forward: RotationRow,
 }
 
 impl Model for Camera {
@@ -92,21 +94,21 @@ impl Model for Camera {
 }
 
 impl ViewPoint {
-    /// How it lies across the picture.
-    fn across(&self) -> Aim
+    /// Returns the point's horizontal axis: offset to the right and distance ahead.
+    fn horizontal(&self) -> ViewAxis
         ensures { result ≡ record { offset = self.now.right; depth = self.now.depth } }
     {
-        Aim {
+        ViewAxis {
             offset: self.right,
             depth: self.depth,
         }
     }
 
-    /// How it lies down the picture.
-    fn downwards(&self) -> Aim
+    /// Returns the point's vertical axis: offset down and distance ahead.
+    fn vertical(&self) -> ViewAxis
         ensures { result ≡ record { offset = self.now.down; depth = self.now.depth } }
     {
-        Aim {
+        ViewAxis {
             offset: self.down,
             depth: self.depth,
         }
@@ -114,15 +116,18 @@ impl ViewPoint {
 }
 
 impl Camera {
-    /// The camera of fifteen numbers: the focal length in pixels at distance 1, from 1 to 4,096; the
-    /// depth nearer than which nothing is seen, from 16,384 to 2^34, in 1/16,384 of a coordinate; the
-    /// tolerance in sixteenths of a pixel, from 0 to 65,535; the eye's x, y and z, within 2^24; and the
-    /// rows right, down and forward, whose entries in 1/16,384 are within 16,384.
+    /// Returns the camera that fifteen numbers describe:
     ///
-    /// Otherwise the first number that is out of its range.
+    /// - the focal length in pixels at distance 1, from 1 to `MAX_FOCAL`;
+    /// - the near-plane distance in grid steps times `ROTATION_ONE`, from `MIN_NEAR` to `MAX_NEAR`;
+    /// - the error tolerance in sixteenths of a pixel, from 0 to `MAX_TOLERANCE`;
+    /// - the eye's x, y and z in grid steps, each from `-MAX_EYE` to `MAX_EYE`;
+    /// - the rotation's rows right, down and forward, each entry from `-ROTATION_ONE` to `ROTATION_ONE`.
+    ///
+    /// If a number is out of its range, the error says which number is the first.
     pub(crate) fn new(numbers: [i64; 15]) -> Result<Camera, BadCamera>
-        ensures good { first_bad numbers ≡ None → result ≡ Ok (view_of_numbers numbers) }
-        ensures bad { IfSome (first_bad numbers)
+        ensures camera { first_bad numbers ≡ None → result ≡ Ok (view_of_numbers numbers) }
+        ensures bad_camera { IfSome (first_bad numbers)
             (λ field. result ≡ Err (record { field = field })) }
     {
         match first_out_of_range(&numbers) {
@@ -131,7 +136,7 @@ impl Camera {
         }
     }
 
-    /// What of the camera decides how fine a mesh has to be.
+    /// Returns what a level of detail is chosen by: the eye, the focal length and the tolerance.
     pub(crate) fn lens(&self) -> Lens
         ensures { result ≡ record {
           eye = self.now.eye;
@@ -146,56 +151,55 @@ impl Camera {
         }
     }
 
-    /// A point of the grid in the camera's axes, if it is no nearer than the near depth.
-    pub(crate) fn turn(&self, p: Pt) -> Option<ViewPoint>
-        requires on_grid { IsWithin (2 ^ 20) p }
-        ensures beyond { IfSome result (IsBeyond self.now) }
+    /// Returns the view-space point of a mesh point, if the point is no nearer than the near plane.
+    pub(crate) fn to_view(&self, p: Pt) -> Option<ViewPoint>
+        requires grid_point { IsGridPoint p }
+        ensures beyond_near { IfSome result (IsBeyondNear self.now) }
         ensures spot { (size : Size) → spot_of self.now size p
             ≡ option_map (spot_at self.now size) result }
     {
-        let depth = along(self.forward, self.eye, p);
+        let depth = dot_from_eye(self.forward, self.eye, p);
         if depth < self.near as i64 {
             return None;
         }
         Some(ViewPoint {
-            right: along(self.right, self.eye, p),
-            down: along(self.down, self.eye, p),
+            right: dot_from_eye(self.right, self.eye, p),
+            down: dot_from_eye(self.down, self.eye, p),
             depth,
         })
     }
 
-    /// Where a point is seen in a picture of this size.
-    pub(crate) fn spot(&self, size: Size, at: ViewPoint) -> Spot
+    /// Returns the screen position and depth of a view-space point in a picture of this size.
+    pub(crate) fn project(&self, size: Size, at: ViewPoint) -> Spot
         requires picture { IsPicture size }
-        requires beyond { IsBeyond self.now at }
-        ensures value { result ≡ spot_at self.now size at }
-        ensures seen { IsSeen result }
+        requires beyond_near { IsBeyondNear self.now at }
+        ensures spot { result ≡ spot_at self.now size at }
+        ensures spot_range { IsSpot result }
     {
         Spot {
-            x: middle(size.width) + on_screen(self.focal, at.right, at.depth),
-            y: middle(size.height) + on_screen(self.focal, at.down, at.depth),
+            x: half_side(size.width) + project_axis(self.focal, at.right, at.depth),
+            y: half_side(size.height) + project_axis(self.focal, at.down, at.depth),
             z: reversed_depth(self.near, at.depth),
         }
     }
 
-    /// Whether all three points are seen on one side of all the centres of a picture.
-    ///
-    /// The test makes no division, and a triangle of such points covers nothing.
-    pub(crate) fn misses(&self, size: Size, a: ViewPoint, b: ViewPoint, c: ViewPoint) -> bool
+    /// Whether all three points are on one side of the centres of all pixels of the picture, so that
+    /// their triangle covers no pixel. The test does not divide.
+    pub(crate) fn is_off_screen(&self, size: Size, a: ViewPoint, b: ViewPoint, c: ViewPoint) -> bool
         requires picture { IsPicture size }
-        requires beyond { IsBeyond self.now a × IsBeyond self.now b × IsBeyond self.now c }
+        requires beyond_near { IsBeyondNear self.now a × IsBeyondNear self.now b × IsBeyondNear self.now c }
         ensures { result ≡ true → (cluster place : ℕ) →
             words_of (spot_at self.now size a) (spot_at self.now size b) (spot_at self.now size c)
             cluster place size ≡ [] }
     {
         let focal = self.focal;
         let Size { width, height } = size;
-        is_beside(focal, width, a.across(), b.across(), c.across())
-            || is_beside(focal, height, a.downwards(), b.downwards(), c.downwards())
+        all_off_one_side(focal, width, a.horizontal(), b.horizontal(), c.horizontal())
+            || all_off_one_side(focal, height, a.vertical(), b.vertical(), c.vertical())
     }
 }
 
-/// The place of the first number that is out of its range.
+/// Returns the index of the first number that is out of its range.
 fn first_out_of_range(numbers: &[i64; 15]) -> Option<u8>
     ensures { result ≡ first_bad numbers.now }
 {
@@ -215,7 +219,7 @@ fn is_outside(range: (i64, i64), number: i64) -> bool
     number < least || most < number
 }
 
-/// The camera of numbers that are all in their ranges.
+/// Returns the camera of numbers that are all in range.
 fn from_numbers(numbers: &[i64; 15]) -> Camera
     requires { first_bad numbers.now ≡ None }
     ensures { result ≡ view_of_numbers numbers.now }
@@ -235,38 +239,41 @@ fn from_numbers(numbers: &[i64; 15]) -> Camera
     }
 }
 
-/// The row whose entries begin at a place.
-fn row_at(numbers: &[i64; 15], place: usize) -> Row
-    requires low { 6 ≤ place }
-    requires high { place ≤ 12 }
-    requires fit { (k : ℕ) → k < 15 → 6 ≤ k → unsigned_abs (number_at numbers.now k) ≤ 16384 }
+/// Returns the rotation row whose entries begin at the index `place`.
+fn row_at(numbers: &[i64; 15], place: usize) -> RotationRow
+    requires least_field { 6 ≤ place }
+    requires greatest_field { place ≤ 12 }
+    requires entries { (k : ℕ) → k < 15 → 6 ≤ k → unsigned_abs (number_at numbers.now k) ≤ ROTATION_ONE }
     ensures { direction_of result ≡ direction_at numbers.now place }
 {
-    Row {
+    RotationRow {
         x: numbers[place] as i32,
         y: numbers[place + 1] as i32,
         z: numbers[place + 2] as i32,
     }
 }
 
-/// How far `p` lies along a row from the eye, in 1/16,384 of a coordinate.
-fn along(row: Row, eye: Pt, p: Pt) -> i64
-    requires row { IsRow row }
-    requires eye { IsWithin (2 ^ 24) eye }
-    requires on_grid { IsWithin (2 ^ 20) p }
-    ensures value { result ≡ along (direction_of row) eye p }
-    ensures bound { unsigned_abs result ≤ 876173328384 }
+/// Returns the dot product of the row with the offset of `p` from the eye, in grid steps times
+/// `ROTATION_ONE`.
+fn dot_from_eye(row: RotationRow, eye: Pt, p: Pt) -> i64
+    requires rotation_row { IsRotationRow row }
+    requires eye { IsEye eye }
+    requires grid_point { IsGridPoint p }
+    ensures dot { result ≡ along (direction_of row) eye p }
+    ensures dot_limit { unsigned_abs result ≤ MAX_DOT }
 {
-    part(row.x, eye.x, p.x) + part(row.y, eye.y, p.y) + part(row.z, eye.z, p.z)
+    axis_product(row.x, eye.x, p.x)
+        + axis_product(row.y, eye.y, p.y)
+        + axis_product(row.z, eye.z, p.z)
 }
 
-/// What one axis adds to it.
-fn part(entry: i32, from: i32, to: i32) -> i64
-    requires entry { unsigned_abs entry ≤ 16384 }
-    requires from { unsigned_abs from ≤ 2 ^ 24 }
-    requires to { unsigned_abs to ≤ 2 ^ 20 }
-    ensures value { result ≡ entry *ℤ (to -ℤ from) }
-    ensures bound { unsigned_abs result ≤ 292057776128 }
+/// Returns the product of one axis: the entry times the offset.
+fn axis_product(entry: i32, from: i32, to: i32) -> i64
+    requires entry { unsigned_abs entry ≤ ROTATION_ONE }
+    requires from { unsigned_abs from ≤ MAX_EYE }
+    requires to { IsGridCoordinate to }
+    ensures product { result ≡ entry *ℤ (to -ℤ from) }
+    ensures product_limit { unsigned_abs result ≤ ROTATION_ONE * (MAX_EYE + MAX_COORDINATE) }
 {
     let away = i64::from(to) - i64::from(from);
     i64::from(entry) * away
@@ -276,7 +283,7 @@ fn part(entry: i32, from: i32, to: i32) -> i64
 mod tests {
     use super::*;
 
-    /// At depth 4,096 above the plane, looking down.
+    /// A camera 4,096 grid steps above the plane, looking down.
     const FROM_ABOVE: [i64; 15] = [
         4, 33_554_432, 0, 0, 4_096, 0, 16_384, 0, 0, 0, 0, 16_384, 0, -16_384, 0,
     ];
@@ -286,7 +293,7 @@ mod tests {
     }
 
     fn point(x: i16, y: i16, z: i16) -> Pt
-        ensures { IsWithin (2 ^ 20) result }
+        ensures { IsGridPoint result }
     {
         Pt {
             x: x.into(),
@@ -297,10 +304,10 @@ mod tests {
 
     fn screen(camera: &Camera, size: Size, p: Pt) -> Option<Spot>
         requires picture { IsPicture size }
-        requires on_grid { IsWithin (2 ^ 20) p }
+        requires grid_point { IsGridPoint p }
     {
-        let at = camera.turn(p)?;
-        Some(camera.spot(size, at))
+        let at = camera.to_view(p)?;
+        Some(camera.project(size, at))
     }
 
     #[test]
@@ -364,14 +371,14 @@ mod tests {
         ];
         for (name, (xa, xb, xc), (za, zb, zc), want) in cases {
             let corners = (
-                camera.turn(point(xa, 0, za)),
-                camera.turn(point(xb, 0, zb)),
-                camera.turn(point(xc, 0, zc)),
+                camera.to_view(point(xa, 0, za)),
+                camera.to_view(point(xb, 0, zb)),
+                camera.to_view(point(xc, 0, zc)),
             );
             let (Some(a), Some(b), Some(c)) = corners else {
                 panic!(&rt; "{name}");
             };
-            assert_eq!(rt; camera.misses(size, a, b, c), want, "{name}");
+            assert_eq!(rt; camera.is_off_screen(size, a, b, c), want, "{name}");
         }
     }
 

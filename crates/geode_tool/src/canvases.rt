@@ -1,12 +1,13 @@
-ghost use Rattle.std.specs.Prelude.{◌≡◌, ◌≤◌, ◌*◌, ℕ, List, [], IfOk, length};
+ghost use Rattle.std.specs.Prelude.{◌≡◌, ◌*◌, ℕ, List, [], IfOk, length};
+ghost use Rattle.geom_core.specs.Limits.{IsPicture};
 ghost use Rattle.geom_core.specs.Picture.{picture_of_words};
 
 use geom_core::{Memory, Size};
 use raster64::PixelSink;
 use std::alloc::Global;
 
-/// A picture that is being drawn: at each pixel the greatest word put there so far, and 0 where there
-/// was none. The words stand row by row from the upper left corner.
+/// A visibility buffer: for each pixel the greatest word put there so far, and 0 if none was put.
+/// Pixels are numbered row by row from the upper left corner.
 #[derive(Drop)]
 pub(crate) struct Canvas {
     words: Vec<u64>,
@@ -15,10 +16,9 @@ pub(crate) struct Canvas {
 }
 
 impl Canvas {
-    /// A canvas of this size on which nothing was drawn.
+    /// Returns a buffer of this size in which nothing was drawn.
     pub(crate) fn of(alloc: Global, size: Size) -> Result<Canvas, Memory>
-        requires columns { size.width ≤ 512 }
-        requires rows { size.height ≤ 512 }
+        requires { IsPicture size }
         ensures size { IfOk result (λ canvas. canvas.size ≡ size) }
         ensures empty { IfOk result (λ canvas. canvas.words.items ≡ picture_of_words size []) }
     {
@@ -27,7 +27,7 @@ impl Canvas {
         Ok(Canvas { words, size })
     }
 
-    /// The words of what was drawn.
+    /// Returns the words, one for each pixel.
     pub(crate) fn into_words(self) -> Vec<u64>
         ensures { result.items ≡ self.words.items }
     {
@@ -36,7 +36,7 @@ impl Canvas {
     }
 }
 
-/// Beside the puts, what is known of a canvas is its size, which stays.
+/// What is known of a buffer, besides what was put, is its size, which does not change.
 impl PixelSink for Canvas {
     type Rest = Size;
 

@@ -3,44 +3,45 @@ ghost use Rattle.std.specs.Char.{is_ascii_digit};
 ghost use Rattle.std.specs.List.{list_all, slice_split};
 ghost use Rattle.std.specs.Str.{byte};
 ghost use Rattle.std.specs.Str.Parse.{digits_value};
-ghost use Rattle.geom_core.specs.Coverage.{IsPicture};
+ghost use Rattle.geom_core.specs.Limits.{is_side, IsPicture, IsSide};
 ghost use Rattle.geode_tool.specs.Words.{command_words, is_audit};
 ghost use Rattle.geode_tool.specs.Words.{draw_words, whole_number, signed_number, side, camera};
-ghost use Rattle.geode_tool.specs.Words.{is_numeral, is_side, numbers_of, fifteen};
-ghost use Rattle.geode_tool.specs.declared.commands.Drawing.{Drawing};
+ghost use Rattle.geode_tool.specs.Words.{is_numeral, numbers_of, fifteen};
+ghost use Rattle.geode_tool.specs.declared.commands.DrawRequest.{DrawRequest};
 
 use crate::cameras::Camera;
 use geom_core::Size;
+use geom_core::limits::MAX_SIDE;
 
-/// The most digits of a width or a height.
+/// The most digits of a width or a height in a command line; leading zeros count.
 const SIDE_DIGITS: usize = 10;
 
-/// The most digits of a camera's number.
+/// The most digits of one of a camera's numbers; leading zeros count.
 const CAMERA_DIGITS: usize = 11;
 
-/// What the program is asked for.
+/// A command of the program.
 #[derive(Clone, Copy, Debug, PartialEq, Eq)]
 pub(crate) enum Command {
-    /// `draw`: to draw a mesh.
-    Draw(Drawing),
-    /// `audit`: to say whether each entry of a journal was allowed.
+    /// `draw`: draws a mesh.
+    Draw(DrawRequest),
+    /// `audit`: checks whether each entry of a journal was allowed.
     Audit,
 }
 
-/// What `draw` is asked for.
+/// The arguments of `draw`.
 #[derive(Clone, Copy, Debug, PartialEq, Eq)]
-pub(crate) struct Drawing {
-    /// The size of the picture, from 1 by 1 to 512 by 512.
+pub(crate) struct DrawRequest {
+    /// The size of the picture.
     pub(crate) size: Size,
-    /// The camera that the mesh is seen with.
+    /// The camera that sees the mesh.
     pub(crate) camera: Camera,
 }
 
-/// The command that the program's words ask for, if they have the form of one.
+/// Returns the command that the words of a command line ask for, if they ask for one.
 pub(crate) fn command_of(words: &[&str]) -> Option<Command>
     ensures asked { result ≡ command_words (map (λ w. w.now) words.now) }
-    ensures in_range { (drawing : Drawing) → result ≡ Some (Command.Draw drawing)
-        → IsPicture drawing.size }
+    ensures side_range { (request : DrawRequest) → result ≡ Some (Command.Draw request)
+        → IsPicture request.size }
 {
     if is_audit(words) {
         return Some(Command::Audit);
@@ -58,11 +59,11 @@ fn is_audit(words: &[&str]) -> bool
     }
 }
 
-/// The drawing that the program's words ask for, if they are `draw`, a width, a height and a camera, each
-/// in its range. A camera is fifteen numbers joined by commas, in the order of `Camera::new`.
-fn draw_of(words: &[&str]) -> Option<Drawing>
+/// Returns the arguments of `draw`, if the words are `draw`, a width, a height and a camera, each in its
+/// range. A camera is fifteen numbers separated by commas, in the order of `Camera::new`.
+fn draw_of(words: &[&str]) -> Option<DrawRequest>
     ensures asked { result ≡ draw_words (map (λ w. w.now) words.now) }
-    ensures in_range { IfSome result (λ drawing. IsPicture drawing.size) }
+    ensures side_range { IfSome result (λ request. IsPicture request.size) }
 {
     let [name, width, height, camera] = words else {
         return None;
@@ -75,13 +76,13 @@ fn draw_of(words: &[&str]) -> Option<Drawing>
         height: side(height.as_bytes())?,
     };
     let camera = camera_in(camera.as_bytes())?;
-    Some(Drawing { size, camera })
+    Some(DrawRequest { size, camera })
 }
 
-/// The width or the height of a picture: a whole number from 1 to 512.
+/// Returns the width or the height that a word gives, if it is a whole number from 1 to `MAX_SIDE`.
 fn side(word: &[u8]) -> Option<u32>
-    ensures value { result ≡ side word.now }
-    ensures in_range { IfSome result (λ n. (0 < n) × (n ≤ 512)) }
+    ensures number { result ≡ side word.now }
+    ensures side_range { IfSome result IsSide }
 {
     let number = whole_number(word, SIDE_DIGITS)?;
     if is_side(number) {
@@ -95,17 +96,17 @@ fn side(word: &[u8]) -> Option<u32>
 fn is_side(number: u64) -> bool
     ensures { result ≡ is_side number }
 {
-    1 <= number && number <= 512
+    1 <= number && number <= u64::from(MAX_SIDE)
 }
 
-/// The camera that a word describes.
+/// Returns the camera that a word describes, if it describes one.
 fn camera_in(word: &[u8]) -> Option<Camera>
     ensures { result ≡ camera word.now }
 {
     Camera::new(numbers_in(word)?).ok()
 }
 
-/// Fifteen numbers between commas.
+/// Returns the fifteen numbers that a word has between commas, if it has fifteen.
 fn numbers_in(word: &[u8]) -> Option<[i64; 15]>
     ensures { result ≡ fifteen (numbers_of (slice_split (λ b. b == byte ",") word.now)) }
 {
@@ -121,7 +122,7 @@ fn numbers_in(word: &[u8]) -> Option<[i64; 15]>
     if count == 15 { Some(numbers) } else { None }
 }
 
-/// A number that may have `-` before its digits.
+/// Returns the number that a word gives, if it is digits with an optional `-` before them.
 fn signed_number(word: &[u8]) -> Option<i64>
     ensures { result ≡ signed_number CAMERA_DIGITS word.now }
 {
@@ -131,14 +132,14 @@ fn signed_number(word: &[u8]) -> Option<i64>
     }
 }
 
-/// The number that at most this many digits write.
+/// Returns the number that a word gives, if it is 1 to `most` digits.
 fn whole_number(word: &[u8], most: usize) -> Option<u64>
     requires { most ≤ 18 }
-    ensures value { result ≡ whole_number most word.now }
-    ensures bound { IfSome result (λ n. n < 10 ^ most) }
+    ensures number { result ≡ whole_number most word.now }
+    ensures number_limit { IfSome result (λ n. n < 10 ^ most) }
 {
     if is_numeral(word, most) {
-        Some(value(word))
+        Some(decimal_value(word))
     } else {
         None
     }
@@ -151,17 +152,17 @@ fn is_numeral(word: &[u8], most: usize) -> bool
     !word.is_empty() && word.len() <= most && is_digits(word)
 }
 
-/// Whether all bytes are digits.
+/// Whether each byte is a digit.
 fn is_digits(word: &[u8]) -> bool
     ensures { result ≡ list_all is_ascii_digit word.now }
 {
     word.iter().all(|byte| byte.is_ascii_digit())
 }
 
-/// The number that digits write.
-fn value(digits: &[u8]) -> u64
+/// Returns the decimal value of digits.
+fn decimal_value(digits: &[u8]) -> u64
     requires digits { list_all is_ascii_digit digits.now ≡ true }
-    requires short { length digits.now ≤ 18 }
+    requires length_limit { length digits.now ≤ 18 }
     ensures { result ≡ digits_value 10 digits.now }
 {
     let mut number = 0;
@@ -183,7 +184,7 @@ mod tests {
             ("a drawing", &["draw", "4", "4", CAMERA], true),
             ("zeros first", &["draw", "0004", "0000000512", CAMERA], true),
             ("an audit", &["audit"], true),
-            ("a word behind `audit`", &["audit", CAMERA], false),
+            ("a word after `audit`", &["audit", CAMERA], false),
             ("`audit` in upper case", &["Audit"], false),
             ("the words of both", &["audit", "4", "4", CAMERA], false),
             ("no words", &[], false),

@@ -1,74 +1,79 @@
 ghost use Rattle.std.specs.Prelude.{◌≡◌};
 ghost use Rattle.geode_tool.specs.Statuses.{status_of};
 
-use crate::texts::TextFault;
+use crate::read_input::TextFault;
 use geom_core::Memory;
 use journal::JournalFault;
 use obj_source::{ObjFault, ObjWhy};
 use residency::ReplayFault;
 use thiserror::Error;
 
-/// What a command did.
+/// What a command did, if it succeeded.
 #[derive(Clone, Copy, Debug, PartialEq, Eq)]
 pub enum Done {
     /// `draw` wrote the picture.
     Drawn,
     /// `audit` wrote that the journal is legal.
     Audited {
-        /// How many entries it has.
+        /// The number of entries of the journal.
         entries: u64,
     },
 }
 
-/// What is wrong with the words of a command line.
+/// What is wrong with a command line.
 #[derive(Clone, Copy, Debug, PartialEq, Eq, Error)]
 pub enum UsageKind {
-    /// The words have the form of no command.
+    /// The words are no command.
     #[error("line")]
     Line,
 }
 
-/// Why a command was not done: the first that holds, in this order. `Memory` may come at any place.
+/// Why a command was not done.
+///
+/// `Usage` comes before anything is read. `ReadFault`, `WriteFault` and `Memory` are failures of the outside
+/// and may come at any point. The others are facts of the text: in `draw` the first faulty line comes before
+/// `TooLong` and `Empty`, and `TooMany` may come before a fault of a later line; in `audit` `TooLong` comes
+/// first, then `BadJournal`, then `Illegal`.
 #[derive(Clone, Copy, Debug, PartialEq, Eq, Error)]
 pub enum Fault {
-    /// The words are none of the commands; nothing was read or written.
+    /// The words are no command; nothing was read or written.
     #[error("usage: {0}")]
     Usage(UsageKind),
     /// The input failed before its end; nothing was written.
     #[error("input could not be read")]
     ReadFault,
-    /// The input has more bytes than the command reads: 2^28 for `draw`, where no line that ends among
-    /// these has a fault, and 2^26 for `audit`; nothing was written.
+    /// The input is longer than `MAX_OBJ_BYTES` (`draw`, if no line that ends within them has a fault) or
+    /// `MAX_JOURNAL_BYTES` (`audit`); nothing was written.
     #[error("input too long")]
     TooLong,
-    /// A line of the mesh's text has a fault; nothing was written.
+    /// A line of the OBJ text has a fault; nothing was written.
     #[error("line {line}: {why}")]
     BadObj {
-        /// The first such line, from 1, counting each line.
+        /// The number of the first such line, from 1; all lines are counted.
         line: u32,
         /// What is wrong with it.
         why: ObjWhy,
     },
-    /// The text of the mesh has more than 2^20 triangles; nothing was written.
+    /// The text has more than `MAX_TRIANGLES` triangles; nothing was written.
     #[error("more than 1048576 triangles")]
     TooMany,
-    /// The text of the mesh has no triangle with three different corners; nothing was written.
+    /// The text has no triangle with three different corners; nothing was written.
     #[error("no triangle")]
     Empty,
-    /// The input is no text of a journal; nothing was written.
+    /// The input is not the text of a journal; nothing was written.
     #[error("journal line {line}")]
     BadJournal {
-        /// The first line outside the grammar, from 1, counting each line; where no line stands for the
-        /// layout, the line after the last one.
+        /// The number of the first line outside the grammar, from 1; all lines are counted. If the layout
+        /// is missing, the number after that of the last line.
         line: u64,
     },
     /// An entry of the journal was not allowed after those before it; nothing was written.
     #[error("entry {entry} not allowed")]
     Illegal {
-        /// The place of the first such entry, from 0.
+        /// The index of the first such entry, from 0.
         entry: u64,
     },
-    /// The output failed; some of the first bytes of the result were written, perhaps all.
+    /// The output failed; a prefix of the result was written, possibly empty or complete.
     #[error("output could not be written")]
     WriteFault,
     /// Memory ran out; nothing was written.
@@ -144,7 +149,7 @@ impl From<ReplayFault> for Fault {
 }
 
 impl Fault {
-    /// The exit status that tells this fault from the others; 0 is left to success.
+    /// Returns the exit status of this fault. Different variants have different statuses; 0 is success.
     pub fn status(&self) -> u8
         ensures { result ≡ status_of self.now }
     {

@@ -1,25 +1,26 @@
 //! The commands of the tool, over any source and any sink of bytes.
 //!
-//! `geode` reads the words of a command, does it, and answers what was done or the first fault. What a
-//! command reads and writes stands in `specs/`; the program `geode` only joins it to the terminal.
+//! [`geode`] reads the words of a command line, does what they ask for, and returns what was done or a fault.
+//! What each command reads and writes is defined in `specs/`. The program `geode` connects this call to
+//! standard input and output.
 #![tactic(auto)]
 
+mod audit_command;
 #[cfg(test)]
 mod audit_tests;
-mod audits;
 mod cameras;
 mod canvases;
 mod commands;
-mod drawing;
+mod draw_command;
+mod draw_mesh;
 mod faults;
 mod picture_texts;
-mod pictures;
 mod projections;
+mod read_input;
 #[cfg(test)]
 mod tests;
-mod texts;
 mod tool;
-mod writing;
+mod write_output;
 
 pub use faults::{Done, Fault, UsageKind};
 pub use tool::geode;

@@ -1,14 +1,14 @@
-ghost use Rattle.std.specs.Prelude.{◌≡◌, ◌≤◌, ◌%◌, ◌++◌, ◌∷◌, [], length, OnOk, IfOk};
+ghost use Rattle.std.specs.Prelude.{◌≡◌, ◌%◌, ◌++◌, ◌∷◌, [], length, OnOk, IfOk};
+ghost use Rattle.geom_core.specs.Limits.{IsSide};
 ghost use Rattle.geode_tool.specs.PictureText.{word_text, row_text, picture_text_of};
 
 use geom_core::Memory;
 use std::alloc::Global;
 
-/// The rows of a picture, from the upper one down: each word as 16 hexadecimal digits in lower case,
-/// parted by one space, and a line feed at the end of each row.
+/// Returns the text of a picture: a line for each row, from the top down, of words that are separated by
+/// one space. A word is 16 hexadecimal digits in lower case.
 pub(crate) fn picture_text(alloc: Global, words: &[u64], width: u32) -> Result<Vec<u8>, Memory>
-    requires some_column { 1 ≤ width }
-    requires few_columns { width ≤ 512 }
+    requires side { IsSide width }
     requires whole_rows { length words.now % width ≡ 0 }
     ensures { IfOk result (λ text. text.items ≡ picture_text_of words.now width) }
 {
@@ -21,7 +21,7 @@ pub(crate) fn picture_text(alloc: Global, words: &[u64], width: u32) -> Result<V
     Ok(text)
 }
 
-/// Adds the words of a row, parted by one space.
+/// Appends the words of a row, separated by one space.
 fn push_row(text: &mut Vec<u8>, row: &[u64]) -> Result<(), Memory>
     ensures { OnOk result (text.new.items ≡ text.old.items ++ row_text row.now) }
 {
@@ -34,7 +34,7 @@ fn push_row(text: &mut Vec<u8>, row: &[u64]) -> Result<(), Memory>
     Ok(())
 }
 
-/// Adds the 16 digits of a word.
+/// Appends the 16 digits of a word.
 #[tactic(auto, unfolding(crate::specs::PictureText::word_text))]
 fn push_word(text: &mut Vec<u8>, word: u64) -> Result<(), Memory>
     ensures { OnOk result (text.new.items ≡ text.old.items ++ word_text word) }

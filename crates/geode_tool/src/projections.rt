@@ -1,111 +1,119 @@
-ghost use Rattle.std.specs.Prelude.{◌≡◌, ◌+◌, ◌*◌, ◌^◌, ◌≤◌, ◌<◌, ◌≤ℤ◌, ◌*ℤ◌, ℕ, pos, true, unsigned_abs};
+ghost use Rattle.std.specs.Prelude.{◌≡◌, ◌+◌, ◌*◌, ◌/◌, ◌≤◌, ◌≤ℤ◌, ◌*ℤ◌, pos, true, unsigned_abs};
+ghost use Rattle.geom_core.specs.declared.limits.TheConstants.{MAX_DOT, MAX_FOCAL, MAX_NEAR, MAX_SIDE};
+ghost use Rattle.geom_core.specs.declared.limits.TheConstants.{MAX_SCREEN_COORDINATE, MIN_NEAR, SUBPIXELS};
 ghost use Rattle.geom_core.specs.Camera.{on_screen, reversed_depth};
 ghost use Rattle.geom_core.specs.Floor.{floor_div};
-ghost use Rattle.geode_tool.specs.Projections.{IsAim, IsBefore, IsBehind, IsBeside, place_of};
+ghost use Rattle.geom_core.specs.Limits.{IsDepth};
+ghost use Rattle.geode_tool.specs.Projections.{IsViewAxis, screen_coordinate};
+ghost use Rattle.geode_tool.specs.Projections.{IsBeforeFirstCentre, IsAfterLastCentre, AreOffOneSide};
 
-/// The reversed depth at the near plane.
-const NEAREST: u64 = 1_073_741_823;
+use geom_core::limits::{MAX_DEPTH, SUBPIXELS};
 
-/// How a point lies along one side of the picture, in 1/16,384 of a coordinate.
+/// Half a pixel: the distance of a pixel's centre from its edges, in sixteenths of a pixel.
+const HALF_PIXEL: i64 = SUBPIXELS as i64 / 2;
+
+/// A view-space point along one side of the picture, in grid steps times `ROTATION_ONE`.
 #[derive(Clone, Copy)]
-pub(crate) struct Aim {
-    /// How far from the camera's axis.
+pub(crate) struct ViewAxis {
+    /// The distance from the camera's axis, to the right or down.
     pub(crate) offset: i64,
-    /// How far ahead.
+    /// The distance ahead of the eye.
     pub(crate) depth: i64,
 }
 
-/// The middle of a side of the picture, in sixteenths of a pixel.
-pub(crate) fn middle(side: u32) -> i64
-    requires { side ≤ 512 }
-    ensures { result ≡ pos (8 * side) }
+/// Returns half a side of the picture, in sixteenths of a pixel.
+pub(crate) fn half_side(side: u32) -> i64
+    requires { side ≤ MAX_SIDE }
+    ensures { result ≡ pos (SUBPIXELS / 2 * side) }
 {
-    8 * i64::from(side)
+    HALF_PIXEL * i64::from(side)
 }
 
-/// How far from the picture's middle an offset is seen, in sixteenths of a pixel, rounded down.
-pub(crate) fn on_screen(focal: u32, offset: i64, depth: i64) -> i64
-    requires focal { focal ≤ 4096 }
-    requires offset { unsigned_abs offset ≤ 876173328384 }
-    requires depth { pos 16384 ≤ℤ depth }
-    ensures value { result ≡ on_screen focal offset depth }
-    ensures bound { unsigned_abs result + 4096 ≤ 2 ^ 42 }
+/// Returns the distance from the picture's middle at which an offset is seen, in sixteenths of a pixel,
+/// rounded down.
+pub(crate) fn project_axis(focal: u32, offset: i64, depth: i64) -> i64
+    requires focal { focal ≤ MAX_FOCAL }
+    requires offset { unsigned_abs offset ≤ MAX_DOT }
+    requires depth { pos MIN_NEAR ≤ℤ depth }
+    ensures coordinate { result ≡ on_screen focal offset depth }
+    ensures coordinate_limit { unsigned_abs result + SUBPIXELS / 2 * MAX_SIDE ≤ MAX_SCREEN_COORDINATE }
 {
-    floor(scaled(focal, offset), depth)
+    floor_div(scaled(focal, offset), depth)
 }
 
-/// A quotient rounded down, also below 0.
+/// Returns the quotient rounded down, also below 0.
 #[tactic(auto, using(crate::proofs::Bounds::floor_div_positive))]
-fn floor(number: i64, divisor: i64) -> i64
-    requires { pos 16384 ≤ℤ divisor }
+fn floor_div(number: i64, divisor: i64) -> i64
+    requires { pos MIN_NEAR ≤ℤ divisor }
     ensures { result ≡ floor_div number divisor }
 {
     number.div_euclid(divisor)
 }
 
-/// The depth as the picture has it, falling from 2^30 - 1 at the near depth towards 0.
+/// Returns the reversed depth: `MAX_DEPTH` at the near plane, falling towards 0 with distance.
 pub(crate) fn reversed_depth(near: u64, depth: i64) -> u32
-    requires least { 16384 ≤ near }
-    requires near { near ≤ 2 ^ 34 }
+    requires near_least { MIN_NEAR ≤ near }
+    requires near_limit { near ≤ MAX_NEAR }
     requires beyond { pos near ≤ℤ depth }
-    requires bound { unsigned_abs depth ≤ 876173328384 }
-    ensures value { result ≡ reversed_depth near depth }
-    ensures low { 0 < result }
-    ensures high { result < 2 ^ 30 }
+    requires depth_limit { unsigned_abs depth ≤ MAX_DOT }
+    ensures reversed { result ≡ reversed_depth near depth }
+    ensures depth_range { IsDepth result }
 {
-    (near * NEAREST / depth as u64) as u32
+    (near * u64::from(MAX_DEPTH) / depth as u64) as u32
 }
 
-/// An offset times sixteen focal lengths.
+/// Returns an offset times the focal length in sixteenths of a pixel.
 fn scaled(focal: u32, offset: i64) -> i64
-    requires focal { focal ≤ 4096 }
-    requires offset { unsigned_abs offset ≤ 876173328384 }
-    ensures value { result ≡ pos (16 * focal) *ℤ offset }
-    ensures bound { unsigned_abs result ≤ 57420895248973824 }
+    requires focal { focal ≤ MAX_FOCAL }
+    requires offset { unsigned_abs offset ≤ MAX_DOT }
+    ensures product { result ≡ pos (SUBPIXELS * focal) *ℤ offset }
+    ensures product_limit { unsigned_abs result ≤ SUBPIXELS * MAX_FOCAL * MAX_DOT }
 {
-    16 * i64::from(focal) * offset
+    i64::from(SUBPIXELS) * i64::from(focal) * offset
 }
 
-/// A depth times a distance on the screen.
+/// Returns a distance on the screen times a depth.
 fn times(distance: i64, depth: i64) -> i64
-    requires distance { unsigned_abs distance ≤ 4096 }
-    requires depth { unsigned_abs depth ≤ 876173328384 }
+    requires distance { unsigned_abs distance ≤ SUBPIXELS / 2 * MAX_SIDE }
+    requires depth { unsigned_abs depth ≤ MAX_DOT }
     ensures { result ≡ distance *ℤ depth }
 {
     distance * depth
 }
 
-/// Whether a point is seen at the first of a side's centres or before it.
-fn is_before(focal: u32, side: u32, at: Aim) -> bool
-    requires focal { focal ≤ 4096 }
-    requires side { side ≤ 512 }
-    requires aim { IsAim at }
-    ensures { result ≡ true → IsBefore side (place_of focal side at) }
+/// Whether a point is seen at the first pixel centre of a side, or before it.
+fn is_before_first_centre(focal: u32, side: u32, at: ViewAxis) -> bool
+    requires focal { focal ≤ MAX_FOCAL }
+    requires side_limit { side ≤ MAX_SIDE }
+    requires view_axis { IsViewAxis at }
+    ensures { result ≡ true → IsBeforeFirstCentre side (screen_coordinate focal side at) }
 {
-    scaled(focal, at.offset) < times(9 - 8 * i64::from(side), at.depth)
+    scaled(focal, at.offset) < times(HALF_PIXEL + 1 - half_side(side), at.depth)
 }
 
-/// Whether a point is seen behind the last of a side's centres.
-fn is_behind(focal: u32, side: u32, at: Aim) -> bool
-    requires focal { focal ≤ 4096 }
-    requires side { side ≤ 512 }
-    requires aim { IsAim at }
-    ensures { result ≡ true → IsBehind side (place_of focal side at) }
+/// Whether a point is seen after the last pixel centre of a side.
+fn is_after_last_centre(focal: u32, side: u32, at: ViewAxis) -> bool
+    requires focal { focal ≤ MAX_FOCAL }
+    requires side_limit { side ≤ MAX_SIDE }
+    requires view_axis { IsViewAxis at }
+    ensures { result ≡ true → IsAfterLastCentre side (screen_coordinate focal side at) }
 {
-    times(8 * i64::from(side) - 7, at.depth) <= scaled(focal, at.offset)
+    times(half_side(side) - HALF_PIXEL + 1, at.depth) <= scaled(focal, at.offset)
 }
 
-/// Whether three points are all seen before the centres of a side, or all behind them.
-pub(crate) fn is_beside(focal: u32, side: u32, a: Aim, b: Aim, c: Aim) -> bool
-    requires focal { focal ≤ 4096 }
-    requires side { side ≤ 512 }
-    requires aims { IsAim a × IsAim b × IsAim c }
-    ensures { result ≡ true → IsBeside side (place_of focal side a)
-        (place_of focal side b) (place_of focal side c) }
+/// Whether three points are all seen before the first pixel centre of a side, or all after the last.
+pub(crate) fn all_off_one_side(focal: u32, side: u32, a: ViewAxis, b: ViewAxis, c: ViewAxis) -> bool
+    requires focal { focal ≤ MAX_FOCAL }
+    requires side_limit { side ≤ MAX_SIDE }
+    requires view_axes { IsViewAxis a × IsViewAxis b × IsViewAxis c }
+    ensures { result ≡ true → AreOffOneSide side (screen_coordinate focal side a)
+        (screen_coordinate focal side b) (screen_coordinate focal side c) }
 {
-    if is_before(focal, side, a) {
-        is_before(focal, side, b) && is_before(focal, side, c)
+    if is_before_first_centre(focal, side, a) {
+        is_before_first_centre(focal, side, b) && is_before_first_centre(focal, side, c)
     } else {
-        is_behind(focal, side, a) && is_behind(focal, side, b) && is_behind(focal, side, c)
+        is_after_last_centre(focal, side, a)
+            && is_after_last_centre(focal, side, b)
+            && is_after_last_centre(focal, side, c)
     }
 }

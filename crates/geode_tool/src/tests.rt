@@ -8,21 +8,37 @@ use std::alloc::Global;
 use std::process::Abort;
 use std::test::Fail;
 
-/// From depth 4,096 above the plane, looking down.
+/// A camera 4,096 grid steps above the plane, looking down.
 const ABOVE: &str = "4,33554432,0,0,4096,0,16384,0,0,0,0,16384,0,-16384,0";
 
-/// The same, seeing only what is at depth 1,048,576 or further.
+/// The same camera with its near plane at a distance of 1,048,576 grid steps.
 const FAR: &str = "4,17179869184,0,0,4096,0,16384,0,0,0,0,16384,0,-16384,0";
+
+/// A camera off every axis and turned about two of them.
+const TURNED: &str = "3,1048576,0,900,2500,1700,13107,0,-9830,-5899,13107,-7864,-7864,-9830,-10486";
 
 const TRIANGLE: &str = "v -1 0 1\nv 1 0 1\nv 1 0 -1\nf 1 2 3\n";
 
 const SQUARE: &str = "v -1 0 1\nv 1 0 1\nv 1 0 -1\nv -1 0 -1\nf 1 2 3\nf 1 3 4\n";
 
+/// `TRIANGLE` from its other side.
+const TURNED_ROUND: &str = "v -1 0 1\nv 1 0 1\nv 1 0 -1\nf 3 2 1\n";
+
+/// `TRIANGLE` at exactly the near-plane distance of `ABOVE`.
+const AT_NEAR: &str = "v -1 2 1\nv 1 2 1\nv 1 2 -1\nf 1 2 3\n";
+
+/// Two triangles over the same pixels, the first of them nearer.
+const NEARER_FIRST: &str = "v -1 1 1\nv 1 1 1\nv 1 1 -1\nv -2 0 2\nv 2 0 2\nv 2 0 -2\n\
+    f 1 2 3\nf 4 5 6\n";
+
+/// A triangle with a different depth at each corner.
+const SLOPING: &str = "v -1 0.5 0.25\nv 1.25 0 0.75\nv 0.5 -0.25 -1.5\nf 1 2 3\n";
+
 const SLANTED: &str = "v -1 0 1\nv 1 0 1\nv 1 1 -1\nf 1 2 3\n";
 
 const CORNERS: &str = "v -1 0 1\nv 1 0 1\nv 1 0 -1\n";
 
-const BACKWARDS: &str = "v -1 0 1\nv 1 0 1\nv 1 0 -1\nf 1 2 -1\n";
+const NEGATIVE_INDEX: &str = "v -1 0 1\nv 1 0 1\nv 1 0 -1\nf 1 2 -1\n";
 
 const SLASHED: &str = "v -1 0 1\nv 1 0 1\nv 1 0 -1\nf\t1//7  2/ 3/x # a face\n";
 
@@ -36,8 +52,9 @@ const EXPORT: &str = "# Blender\nmtllib plane.mtl\no Plane\nv -1.000000 0.000000
     vt 1.000000 0.000000\nvt 0.000000 1.000000\nvt 1.000000 1.000000\ns 0\n\
     usemtl Material\nf 1/1/1 2/2/1 4/3/1 3/4/1\n";
 
-// The words of pixels: dark, of the first and of the second triangle, the two of the slanted one, and of
-// triangle 1,048,575.
+// Words of pixels, each from a model apart from this program: no triangle; the first and the second triangle;
+// two depths of the slanted one; the triangle with the number 1,048,575, and that with the number 129; a
+// triangle one unit above the plane, and one at the near plane; three depths of the sloping one.
 const O: &str = "0000000000000000";
 
 const A: &str = "7ffffffc00000000";
@@ -49,6 +66,31 @@ const P: &str = "9af286b800000000";
 const Q: &str = "88fb823800000000";
 
 const Z: &str = "7ffffffc000fffff";
+
+const Y: &str = "7ffffffc00000081";
+
+const H: &str = "aaaaaaa800000000";
+
+const N: &str = "fffffffc00000000";
+
+const R: &str = "07763dc000000000";
+
+const S: &str = "064e5e5000000000";
+
+const T: &str = "057f379000000000";
+
+/// The words of a picture of 3 by 5 pixels, row by row.
+type NarrowPixels = [&'static str; 15];
+
+const NARROW: NarrowPixels = [O, O, O, O, O, O, O, A, O, O, O, O, O, O, O];
+
+const NARROW_129: NarrowPixels = [O, O, O, O, O, O, O, Y, O, O, O, O, O, O, O];
+
+const NARROW_NEARER: NarrowPixels = [O, O, O, O, O, H, O, H, H, H, H, H, O, O, O];
+
+const NARROW_AT_NEAR: NarrowPixels = [O, O, O, O, O, N, O, N, N, N, N, N, O, O, O];
+
+const NARROW_TURNED: NarrowPixels = [O, O, R, O, S, T, O, O, O, O, O, O, O, O, O];
 
 /// The words of a picture of 4 by 4 pixels, row by row.
 type Pixels = [&'static str; 16];
@@ -66,17 +108,29 @@ const LAST: Pixels = [O, O, O, O, O, O, Z, O, O, Z, Z, O, O, O, O, O];
 /// The bytes of the text of such a picture.
 const TEXT_LEN: u64 = 272;
 
+/// Returns the text of a picture of 4 by 4 pixels.
 fn text_of(alloc: Global, pixels: &Pixels) -> Result<Vec<u8>, Memory> {
+    text_of_rows(alloc, pixels, 4)
+}
+
+/// Returns the text of a picture of this width.
+fn text_of_rows(alloc: Global, pixels: &[&str], width: usize) -> Result<Vec<u8>, Memory>
+    requires { 1 ≤ width }
+{
     let mut text = Vec::new(alloc);
     for (pixel, word) in pixels.iter().enumerate() {
         text.extend_from_slice(word.as_bytes())?;
-        text.push(if pixel % 4 == 3 { b'\n' } else { b' ' })?;
+        text.push(if pixel % width == width - 1 {
+            b'\n'
+        } else {
+            b' '
+        })?;
     }
     Ok(text)
 }
 
-/// How a source and a sink behave: the most bytes of a call, and which call of each fails, from 1; at 0
-/// none does.
+/// The behaviour of a source and a sink: the most bytes of a call, and which call of each fails, from 1; if
+/// 0, none fails.
 #[derive(Clone, Copy)]
 pub(crate) struct Calls {
     pub(crate) most: u32,
@@ -90,7 +144,7 @@ pub(crate) const SOUND: Calls = Calls {
     failing_write: 0,
 };
 
-/// What a run answered, and what it wrote.
+/// The answer of a run, and what the run wrote.
 #[derive(Drop)]
 pub(crate) struct Outcome {
     pub(crate) answer: Result<Done, Fault>,
@@ -123,7 +177,7 @@ const SLOW: Calls = Calls { most: 1, ..SOUND };
 /// The words that ask for a picture of 4 by 4 pixels.
 const DRAW: &[&str] = &["draw", "4", "4", ABOVE];
 
-/// The same text with CR and LF at the end of each line.
+/// Returns the text with CR and LF at the end of each line.
 fn with_returns(alloc: Global, text: &str) -> Result<String, Memory> {
     let mut longer = String::new(alloc);
     for line in text.lines() {
@@ -133,12 +187,13 @@ fn with_returns(alloc: Global, text: &str) -> Result<String, Memory> {
     Ok(longer)
 }
 
-/// The corners of a triangle, and a line behind them.
+/// Returns `CORNERS` with one more line.
 fn with_line(alloc: Global, line: &str) -> Result<String, Memory> {
     Ok(format!(in alloc; "{CORNERS}{line}\n")?)
 }
 
-/// One polygon with so many pairs of corners behind its first, so that none of its triangles is dropped.
+/// Returns one polygon with this number of pairs of corners after its first corner, so that none of its
+/// triangles is dropped.
 fn with_pairs(alloc: Global, pairs: u32) -> Result<String, Memory> {
     let mut text = format!(in alloc; "{CORNERS}f 1")?;
     for _ in 0..pairs {
@@ -178,10 +233,58 @@ fn draws(rt: HostRuntime) -> Result<(), Fail> {
     Ok(())
 }
 
+/// Draws a text in whole pieces and byte by byte, and compares the picture of 3 by 5 pixels.
+fn assert_drawn_narrow(
+    rt: &impl Abort,
+    alloc: Global,
+    name: &str,
+    text: &str,
+    camera: &str,
+    pixels: &NarrowPixels,
+) -> Result<(), Fail> {
+    for calls in [SOUND, SLOW] {
+        let outcome = run(alloc, &["draw", "3", "5", camera], text, calls)?;
+        assert_eq!(rt; outcome.answer, Ok(Done::Drawn), "{name}");
+        assert_eq!(rt; outcome.written, text_of_rows(alloc, pixels, 3)?, "{name}");
+    }
+    Ok(())
+}
+
+#[test]
+fn draws_pictures_that_are_not_square(rt: HostRuntime) -> Result<(), Fail> {
+    let cases = [
+        ("one triangle", TRIANGLE, ABOVE, NARROW),
+        ("its other side", TURNED_ROUND, ABOVE, NARROW),
+        (
+            "the nearer triangle first",
+            NEARER_FIRST,
+            ABOVE,
+            NARROW_NEARER,
+        ),
+        ("at the near plane", AT_NEAR, ABOVE, NARROW_AT_NEAR),
+        ("a turned camera", SLOPING, TURNED, NARROW_TURNED),
+    ];
+    for (name, text, camera, pixels) in cases {
+        assert_drawn_narrow(&rt, rt.alloc(), name, text, camera, &pixels)?;
+    }
+    Ok(())
+}
+
+#[test]
+fn draws_triangle_129(rt: HostRuntime) -> Result<(), Fail> {
+    let alloc = rt.alloc();
+    let mut text = format!(in alloc; "{CORNERS}v 900 0 900\nv 901 0 900\nv 900 0 901\nf 4")?;
+    for _ in 0..65 {
+        text.push_str(" 5 6")?;
+    }
+    text.push_str("\nf 1 2 3\n")?;
+    assert_drawn_narrow(&rt, alloc, "triangle 129", &text, ABOVE, &NARROW_129)
+}
+
 #[test]
 fn draws_other_forms(rt: HostRuntime) -> Result<(), Fail> {
     let cases = [
-        ("a corner named backwards", BACKWARDS),
+        ("a negative index", NEGATIVE_INDEX),
         ("slashes, tabs and a comment", SLASHED),
         ("no last line feed", UNENDED),
     ];
@@ -224,7 +327,7 @@ fn assert_refused(
 }
 
 #[test]
-fn the_first_fault_of_a_mesh_is_named(rt: HostRuntime) -> Result<(), Fail> {
+fn the_first_fault_of_a_mesh_is_reported(rt: HostRuntime) -> Result<(), Fail> {
     let cases = [
         ("no bytes", "", Fault::Empty),
         ("vertices alone", CORNERS, Fault::Empty),
@@ -240,7 +343,7 @@ fn the_first_fault_of_a_mesh_is_named(rt: HostRuntime) -> Result<(), Fail> {
 }
 
 #[test]
-fn the_first_fault_of_a_face_is_named(rt: HostRuntime) -> Result<(), Fail> {
+fn the_first_fault_of_a_face_is_reported(rt: HostRuntime) -> Result<(), Fail> {
     let cases = [
         ("a repeated corner", "f 1 2 2", Fault::Empty),
         ("vertex 0", "f 1 2 0", line(4, ObjWhy::NoSuchVertex(3))),
@@ -249,7 +352,7 @@ fn the_first_fault_of_a_face_is_named(rt: HostRuntime) -> Result<(), Fail> {
         ("no number", "f 1 2 x", line(4, ObjWhy::BadCorner(3))),
         ("a plus", "f 1 +2 x", line(4, ObjWhy::BadCorner(2))),
         (
-            "a vertex too far, behind a face",
+            "a vertex out of range, after a face",
             "f 1 2 3\nv 0 0 1025 # far\nf 1 2 x",
             line(5, ObjWhy::OutOfRange(3)),
         ),
@@ -291,7 +394,7 @@ fn wrong_words_are_refused(rt: HostRuntime) -> Result<(), Fail> {
     let cases: [(&str, &[&str], &str); 3] = [
         ("no camera", &["draw", "4", "4"], TRIANGLE),
         ("no words", &[], TRIANGLE),
-        ("a word behind `audit`", &["audit", "-"], "layout 1 1 1"),
+        ("a word after `audit`", &["audit", "-"], "layout 1 1 1"),
     ];
     for (name, words, text) in cases {
         let outcome = run(rt.alloc(), words, text, SOUND)?;
@@ -302,7 +405,7 @@ fn wrong_words_are_refused(rt: HostRuntime) -> Result<(), Fail> {
     Ok(())
 }
 
-/// Compares what is printed of a fault.
+/// Compares the line that is printed for a fault.
 fn assert_shown(
     rt: &impl Abort,
     alloc: Global,

@@ -24,14 +24,14 @@ overflow_cast-result-5 c = let r = in_ranges c.args.numbers.now c.told-numbers c
 pub overflow_cast-result-6 : goal.overflow_cast-result-6
 overflow_cast-result-6 c = let r = in_ranges c.args.numbers.now c.told-numbers c.requires in omega (arith, ints)
 
-pub row_at-requires-clause-fit : goal.row_at-requires-clause-fit
-row_at-requires-clause-fit c = (in_ranges c.args.numbers.now c.told-numbers c.requires).rows
+pub row_at-requires-clause-entries : goal.row_at-requires-clause-entries
+row_at-requires-clause-entries c = (in_ranges c.args.numbers.now c.told-numbers c.requires).rows
 
-pub row_at-requires-2-clause-fit : goal.row_at-requires-2-clause-fit
-row_at-requires-2-clause-fit c = (in_ranges c.args.numbers.now c.told-numbers c.requires).rows
+pub row_at-requires-2-clause-entries : goal.row_at-requires-2-clause-entries
+row_at-requires-2-clause-entries c = (in_ranges c.args.numbers.now c.told-numbers c.requires).rows
 
-pub row_at-requires-3-clause-fit : goal.row_at-requires-3-clause-fit
-row_at-requires-3-clause-fit c = (in_ranges c.args.numbers.now c.told-numbers c.requires).rows
+pub row_at-requires-3-clause-entries : goal.row_at-requires-3-clause-entries
+row_at-requires-3-clause-entries c = (in_ranges c.args.numbers.now c.told-numbers c.requires).rows
 
 pub invariant_of-result : goal.invariant_of-result
 invariant_of-result c =

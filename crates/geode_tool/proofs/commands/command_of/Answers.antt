@@ -1,6 +1,6 @@
 use Rattle.std.proofs.Common.{sym, ap, ◌∙◌, Option, option_map}
 use Rattle.geode_tool.specs.declared.commands.Command.TheVariants.{Draw}
-use Rattle.geode_tool.specs.declared.commands.Drawing.{Drawing}
+use Rattle.geode_tool.specs.declared.commands.DrawRequest.{DrawRequest}
 use Rattle.geode_tool.proofs.CommandWords.{command_words-audit, command_words-other}
 use Rattle.geode_tool.proofs.commands.command_of.Goals as goal
 
@@ -12,9 +12,9 @@ pub returns-in_err-draw_of-clause-asked : goal.returns-in_err-draw_of-clause-ask
 returns-in_err-draw_of-clause-asked c =
     let none = sym c.draw_of.ensures.asked ∙ c.in_err-draw_of.was in
     c.from_residual.ensures
-    ∙ sym (command_words-other _ (sym c.is_audit.ensures ∙ c.if-is_audit.false) ∙ ap (λ (drawing : Option Drawing). option_map Draw drawing) none)
+    ∙ sym (command_words-other _ (sym c.is_audit.ensures ∙ c.if-is_audit.false) ∙ ap (λ (request : Option DrawRequest). option_map Draw request) none)
 
 pub returns-clause-asked : goal.returns-clause-asked
 returns-clause-asked c =
     let found = sym c.draw_of.ensures.asked ∙ c.in_ok-draw_of.was in
-    sym (command_words-other _ (sym c.is_audit.ensures ∙ c.if-is_audit.false) ∙ ap (λ (drawing : Option Drawing). option_map Draw drawing) found)
+    sym (command_words-other _ (sym c.is_audit.ensures ∙ c.if-is_audit.false) ∙ ap (λ (request : Option DrawRequest). option_map Draw request) found)

@@ -15,25 +15,25 @@ returns-then-ne-clause-asked c =
 
 pub returns-in_err-side-clause-asked : goal.returns-in_err-side-clause-asked
 returns-in_err-side-clause-asked c =
-    let width = sym (c.side.ensures.value ∙ ap side c.as_bytes.ensures.value) ∙ c.in_err-side.was in
+    let width = sym (c.side.ensures.number ∙ ap side c.as_bytes.ensures.value) ∙ c.in_err-side.was in
     c.from_residual.ensures ∙ draw_words-values c.args.words.now c.ne.result None _ _ c.in-len4.len_at_least c.in-len4.len_below c.ne.ensures c.if-ne.false width refl refl
 
 pub returns-in_err-side-2-clause-asked : goal.returns-in_err-side-2-clause-asked
 returns-in_err-side-2-clause-asked c =
-    let width = sym (c.side.ensures.value ∙ ap side c.as_bytes.ensures.value) ∙ c.in_ok-side.was in
-    let height = sym (c.side-2.ensures.value ∙ ap side c.as_bytes-2.ensures.value) ∙ c.in_err-side-2.was in
+    let width = sym (c.side.ensures.number ∙ ap side c.as_bytes.ensures.value) ∙ c.in_ok-side.was in
+    let height = sym (c.side-2.ensures.number ∙ ap side c.as_bytes-2.ensures.value) ∙ c.in_err-side-2.was in
     c.from_residual-in_err-side-2.ensures ∙ draw_words-values c.args.words.now c.ne.result (Some _) None _ c.in-len4.len_at_least c.in-len4.len_below c.ne.ensures c.if-ne.false width height refl
 
 pub returns-in_err-camera-clause-asked : goal.returns-in_err-camera-clause-asked
 returns-in_err-camera-clause-asked c =
-    let width = sym (c.side.ensures.value ∙ ap side c.as_bytes.ensures.value) ∙ c.in_ok-side.was in
-    let height = sym (c.side-2.ensures.value ∙ ap side c.as_bytes-2.ensures.value) ∙ c.in_ok-side-2.was in
+    let width = sym (c.side.ensures.number ∙ ap side c.as_bytes.ensures.value) ∙ c.in_ok-side.was in
+    let height = sym (c.side-2.ensures.number ∙ ap side c.as_bytes-2.ensures.value) ∙ c.in_ok-side-2.was in
     let view = sym (c.camera_in.ensures ∙ ap camera c.as_bytes-3.ensures.value) ∙ c.in_err-camera.was in
     c.from_residual-in_err-camera.ensures ∙ draw_words-values c.args.words.now c.ne.result (Some _) (Some _) None c.in-len4.len_at_least c.in-len4.len_below c.ne.ensures c.if-ne.false width height view
 
 pub returns-clause-asked : goal.returns-clause-asked
 returns-clause-asked c =
-    let width = sym (c.side.ensures.value ∙ ap side c.as_bytes.ensures.value) ∙ c.in_ok-side.was in
-    let height = sym (c.side-2.ensures.value ∙ ap side c.as_bytes-2.ensures.value) ∙ c.in_ok-side-2.was in
+    let width = sym (c.side.ensures.number ∙ ap side c.as_bytes.ensures.value) ∙ c.in_ok-side.was in
+    let height = sym (c.side-2.ensures.number ∙ ap side c.as_bytes-2.ensures.value) ∙ c.in_ok-side-2.was in
     let view = sym (c.camera_in.ensures ∙ ap camera c.as_bytes-3.ensures.value) ∙ c.in_ok-camera.was in
     draw_words-values c.args.words.now c.ne.result (Some _) (Some _) (Some _) c.in-len4.len_at_least c.in-len4.len_below c.ne.ensures c.if-ne.false width height view

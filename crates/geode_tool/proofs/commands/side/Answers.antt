@@ -2,14 +2,14 @@ use Rattle.std.proofs.Common.{rules}
 use Rattle.geode_tool.specs.Words.{side}
 use Rattle.geode_tool.proofs.commands.side.Goals as goal
 
-pub returns-in_err-number-clause-value : goal.returns-in_err-number-clause-value
+pub returns-in_err-number-clause-number : goal.returns-in_err-number-clause-number
 unfolding side
-returns-in_err-number-clause-value c = search rules
+returns-in_err-number-clause-number c = search rules
 
-pub returns-then-is_side-clause-value : goal.returns-then-is_side-clause-value
+pub returns-then-is_side-clause-number : goal.returns-then-is_side-clause-number
 unfolding side
-returns-then-is_side-clause-value c = search rules
+returns-then-is_side-clause-number c = search rules
 
-pub returns-else-is_side-clause-value : goal.returns-else-is_side-clause-value
+pub returns-else-is_side-clause-number : goal.returns-else-is_side-clause-number
 unfolding side
-returns-else-is_side-clause-value c = search rules
+returns-else-is_side-clause-number c = search rules

@@ -3,6 +3,6 @@ use Rattle.std.proofs.lemmas.Int.{to_z-of_z}
 use Rattle.geom_core.specs.Camera.{reversed_depth}
 use Rattle.geode_tool.proofs.projections.reversed_depth.Goals as goal
 
-pub returns-clause-value : goal.returns-clause-value
+pub returns-clause-reversed : goal.returns-clause-reversed
 unfolding reversed_depth
-returns-clause-value c = rw (to_z-of_z w64 c.args.depth c.ranges.depth) refl
+returns-clause-reversed c = rw (c.from.ensures, to_z-of_z w64 c.args.depth c.ranges.depth) refl

@@ -1,0 +1,86 @@
+ghost use Rattle.std.specs.Prelude.{◌≡◌, ◌≢◌, ◌≤◌, ℕ, true, length, Ok, Err, string_bytes, IfOk, IfErr, OnOk};
+ghost use Rattle.geom_core.specs.declared.limits.TheConstants.{MAX_JOURNAL_BYTES};
+ghost use Rattle.span_io.specs.Faults.{Rose};
+ghost use Rattle.span_io.specs.Puts.{Appended};
+ghost use Rattle.geode_tool.specs.Audit.{audit_answer, verdict_text, IsAudited, IsVerdict};
+ghost use Rattle.geode_tool.specs.Audit.{AuditRefused, JudgeRefused};
+ghost use Rattle.geode_tool.specs.Commands.{AnswersOrFails, may_refuse};
+ghost use Rattle.geode_tool.specs.Outputs.{WritesPrefix};
+ghost use Rattle.geode_tool.specs.Texts.{ReadToEnd};
+ghost use Rattle.geode_tool.specs.declared.commands.Command.TheVariants as Command;
+
+use crate::faults::{Done, Fault};
+use crate::read_input::read_at_most;
+use crate::write_output::write_whole;
+use geom_core::Memory;
+use geom_core::limits::MAX_JOURNAL_BYTES;
+use journal::{Journal, read_journal};
+use residency::Pool;
+use span_io::{Sink, Source};
+use std::alloc::Global;
+
+/// Reads the text of a journal and writes the number of its entries, if each entry was allowed.
+pub(crate) fn audit<S: Source, K: Sink>(
+    alloc: Global,
+    input: &mut S,
+    out: &mut K,
+) -> Result<Done, Fault>
+    ensures answered { AnswersOrFails audit_answer (S.left input.old) result }
+    ensures audited { (entries : ℕ) → result ≡ Ok (Done.Audited entries)
+        → IsAudited (S.left input.old) entries }
+    ensures verdict { (entries : ℕ) → result ≡ Ok (Done.Audited entries)
+        → Appended (K.written out.old) (K.written out.new) (verdict_text entries) }
+    ensures success_kind { result ≢ Ok Done.Drawn }
+    ensures input_read { OnOk result (ReadToEnd (S.left input.old) (S.left input.new)) }
+    ensures flushed { OnOk result (K.flushed out.new ≡ true) }
+
+    ensures refusals { IfErr result (λ fault. may_refuse Command.Audit fault ≡ true) }
+    ensures read_fault { result ≡ Err Fault.ReadFault
+        → Rose (S.faults input.old) (S.faults input.new) }
+    ensures write_fault { result ≡ Err Fault.WriteFault
+        → Rose (K.faults out.old) (K.faults out.new) }
+    ensures prefix { result ≡ Err Fault.WriteFault → WritesPrefix (IsVerdict (S.left input.old))
+        (K.written out.old) (K.written out.new) }
+    ensures output_unchanged { IfErr result (λ fault. fault ≢ Fault.WriteFault → out.new ≡ out.old) }
+
+    ensures input_fault_count { S.faults input.old ≤ S.faults input.new }
+    ensures output_fault_count { K.faults out.old ≤ K.faults out.new }
+{
+    let entries = legal_entries(alloc, input)?;
+    let verdict = verdict_text(alloc, entries)?;
+    write_whole(out, verdict.as_bytes())?;
+    Ok(Done::Audited { entries })
+}
+
+/// Reads the text of a journal and returns the number of its entries, if each entry was allowed.
+fn legal_entries<S: Source>(alloc: Global, input: &mut S) -> Result<u64, Fault>
+    ensures legal { IfOk result (IsAudited (S.left input.old)) }
+    ensures input_read { OnOk result (ReadToEnd (S.left input.old) (S.left input.new)) }
+
+    ensures refused { IfErr result
+        (AuditRefused (S.left input.old) (S.faults input.old) (S.faults input.new)) }
+    ensures fault_count { S.faults input.old ≤ S.faults input.new }
+{
+    let text = read_at_most(alloc, input, MAX_JOURNAL_BYTES as usize)?;
+    entries_of(alloc, &text)
+}
+
+/// Returns the number of entries of the journal in a text, if each entry was allowed.
+fn entries_of(alloc: Global, text: &[u8]) -> Result<u64, Fault>
+    requires { length text.now ≤ MAX_JOURNAL_BYTES }
+    ensures legal { IfOk result
+        (λ entries. audit_answer text.now ≡ Ok (Done.Audited entries)) }
+    ensures refused { IfErr result (JudgeRefused text.now) }
+{
+    let Journal { layout, entries } = read_journal(alloc, text)?;
+    let pool = Pool::replay(alloc, layout, entries.into_vec())?;
+    Ok(pool.journal().len() as u64)
+}
+
+/// Returns what is written if the journal is legal.
+#[tactic(auto, unfolding(crate::specs::Audit::verdict_text))]
+fn verdict_text(alloc: Global, entries: u64) -> Result<String, Memory>
+    ensures { IfOk result (λ text. string_bytes text ≡ verdict_text entries) }
+{
+    Ok(format!(in alloc; "legal {entries}\n")?)
+}
