@@ -12,5 +12,5 @@ pub mod PrintedEntries
 pub mod PrintedJournal
 pub mod PrintedLines
 pub mod PrintedNumbers
-pub mod PrintedParts
+pub mod PrintedFields
 pub mod WithinTypes

@@ -31,9 +31,9 @@ all_below limit numbers = list_all (λ n. nat_lt n limit) numbers
 pub record CountsFit (layout : Layout) : Type 0 where
   pub some_root : 1 ≤ layout.roots
   pub roots_are_pages : layout.roots ≤ layout.pages
-  pub few_pages : layout.pages ≤ 2 ^ 23
+  pub page_limit : layout.pages ≤ 2 ^ 23
   pub roots_fit : layout.roots ≤ layout.slots
-  pub few_slots : layout.slots ≤ 2 ^ 23
+  pub slot_limit : layout.slots ≤ 2 ^ 23
 
 -- the uppers of a page ascend, each below the page
 abbrev pub UppersFit : ℕ → List ℕ → Type 0

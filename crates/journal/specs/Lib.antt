@@ -1,5 +1,5 @@
 pub mod Grammar
 pub mod Layout
-pub mod Left
+pub mod RestOfLine
 pub mod Spelling
 pub mod Typed

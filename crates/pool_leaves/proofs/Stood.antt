@@ -134,7 +134,7 @@ CountsLowers-more layout held held' page old new bounds begins len raised counts
   count_a_page = len ∙ counts.count_a_page;
   counts = λ p inside.
       let more = began layout held held' page p bounds begins in
-      omega (arith, more, counts.counts p inside, raised p (omega (arith, inside, counts.count_a_page)), count_on-most layout held' p, bounds.counts.few_pages);
+      omega (arith, more, counts.counts p inside, raised p (omega (arith, inside, counts.count_a_page)), count_on-most layout held' p, bounds.counts.page_limit);
 }
 
 pub CountsLowers-less : (layout : Layout) (held held' : ℕ → Bool) (page : ℕ) (old new : List ℕ) → InBounds layout → Begins layout held' held page → length new ≡ length old → ((p : ℕ) → p < length old → get_or new p 0 ≡ get_or old p 0 - count_in p (uppers_of layout page)) → CountsLowers layout held old → CountsLowers layout held' new

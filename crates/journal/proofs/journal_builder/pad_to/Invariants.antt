@@ -1,6 +1,6 @@
 use Rattle.std.proofs.Common.{◌≡◌, ◌≤◌, length, min}
 use Rattle.journal.specs.Grammar.{up_to}
-use Rattle.journal.proofs.drafts.pad_to.Given as goal
+use Rattle.journal.proofs.journal_builder.pad_to.Given as goal
 
 -- the pages before the counter have their lists
 abbrev pub invariant-loop : goal.invariant-loop

@@ -2,13 +2,13 @@ ghost use Rattle.std.specs.Prelude.{◌≡◌, IfOk, OnOk};
 ghost use Rattle.journal.specs.Grammar.{up_to};
 
 use crate::entries::{Entries, Entry};
+use crate::fields::Fields;
 use crate::journals::Journal;
 use crate::layouts::{Layout, Uppers};
-use crate::lines::entry;
-use crate::numbers::number_below;
-use crate::page_lists::some_numbers;
+use crate::lines::parse_entry;
+use crate::numbers::parse_below;
+use crate::page_lists::parse_some_numbers;
 use crate::pages::ascends;
-use crate::parts::Parts;
 use geom_core::{Memory, Nums};
 use std::alloc::Global;
 use std::marker::Model;
@@ -25,7 +25,7 @@ fn pad_to(alloc: Global, uppers: &mut Vec<Nums>, page: usize) -> Result<(), Memo
 
 /// What the lines so far say. A contract sees a journal whose list of uppers may still be short.
 #[derive(Drop)]
-pub struct Draft {
+pub struct JournalBuilder {
     pages: u32,
     roots: u32,
     slots: u32,
@@ -33,34 +33,34 @@ pub struct Draft {
     entries: Vec<Entry>,
 }
 
-impl Model for Draft {
+impl Model for JournalBuilder {
     ghost use Rattle.journal.specs.declared.journals.Journal.{Journal};
 
     ghost Value = { Journal };
 
-    ghost view = { λ draft. record {
-      layout = record { pages = draft.pages; roots = draft.roots; slots = draft.slots; uppers = draft.uppers.items };
-      entries = draft.entries.items;
+    ghost view = { λ builder. record {
+      layout = record { pages = builder.pages; roots = builder.roots; slots = builder.slots; uppers = builder.uppers.items };
+      entries = builder.entries.items;
     } };
 }
 
-impl Draft {
+impl JournalBuilder {
     ghost use Rattle.std.specs.Prelude.{[]};
     ghost use Rattle.std.specs.Option.{option_map};
-    ghost use Rattle.journal.specs.Grammar.{completed, layout_of, with_entry, with_upper};
+    ghost use Rattle.journal.specs.Grammar.{with_all_uppers, layout_of, with_entry, with_upper};
 
     /// `layout PAGES ROOTS SLOTS`.
     #[tactic(auto, unfolding(crate::specs::Grammar::layout_of))]
-    pub fn begun(alloc: Global, parts: Parts) -> Option<Draft>
+    pub fn from_layout_line(alloc: Global, fields: Fields) -> Option<JournalBuilder>
         ensures { result ≡
-            option_map (λ layout. record { layout = layout; entries = [] }) (layout_of parts.entry) }
+            option_map (λ layout. record { layout = layout; entries = [] }) (layout_of fields.entry) }
     {
-        let (first, second, third) = parts.after_word(b"layout")?.triple()?;
-        let pages = number_below(first, (1 << 23) + 1)?;
-        let roots = number_below(second, u64::from(pages) + 1)?;
-        let slots = number_below(third, (1 << 23) + 1)?;
+        let (first, second, third) = fields.after_word(b"layout")?.triple()?;
+        let pages = parse_below(first, (1 << 23) + 1)?;
+        let roots = parse_below(second, u64::from(pages) + 1)?;
+        let slots = parse_below(third, (1 << 23) + 1)?;
         if 1 <= roots && roots <= slots {
-            Some(Draft {
+            Some(JournalBuilder {
                 pages,
                 roots,
                 slots,
@@ -72,18 +72,22 @@ impl Draft {
         }
     }
 
-    /// The draft with `P L` of an `upper` line more.
+    /// The builder with `P L` of an `upper` line more.
     #[tactic(auto, unfolding(crate::specs::Grammar::with_upper))]
-    pub fn with_upper(mut self, alloc: Global, parts: Parts) -> Result<Option<Draft>, Memory>
-        ensures { IfOk result (λ found. found ≡ with_upper self parts.entry) }
+    pub fn with_upper(
+        mut self,
+        alloc: Global,
+        fields: Fields,
+    ) -> Result<Option<JournalBuilder>, Memory>
+        ensures { IfOk result (λ found. found ≡ with_upper self fields.entry) }
     {
-        let Some((part, rest)) = parts.headed() else {
+        let Some((field, rest)) = fields.split_first() else {
             return Ok(None);
         };
-        let Some(page) = number_below(part, u64::from(self.pages)) else {
+        let Some(page) = parse_below(field, u64::from(self.pages)) else {
             return Ok(None);
         };
-        let Some(listed) = some_numbers(alloc, rest, u64::from(page))? else {
+        let Some(listed) = parse_some_numbers(alloc, rest, u64::from(page))? else {
             return Ok(None);
         };
         if self.entries.is_empty()
@@ -98,12 +102,16 @@ impl Draft {
         }
     }
 
-    /// The draft with the entry of a line more.
+    /// The builder with the entry of a line more.
     #[tactic(auto, unfolding(crate::specs::Grammar::with_entry))]
-    pub fn with_entry(mut self, alloc: Global, parts: Parts) -> Result<Option<Draft>, Memory>
-        ensures { IfOk result (λ found. found ≡ with_entry self parts.entry) }
+    pub fn with_entry(
+        mut self,
+        alloc: Global,
+        fields: Fields,
+    ) -> Result<Option<JournalBuilder>, Memory>
+        ensures { IfOk result (λ found. found ≡ with_entry self fields.entry) }
     {
-        let Some(entry) = entry(alloc, parts)? else {
+        let Some(entry) = parse_entry(alloc, fields)? else {
             return Ok(None);
         };
         self.entries.push(entry)?;
@@ -111,12 +119,12 @@ impl Draft {
     }
 
     /// The journal, where each page has its list.
-    #[tactic(auto, unfolding(crate::specs::Grammar::completed))]
-    pub fn complete(mut self, alloc: Global) -> Result<Journal, Memory>
-        ensures { IfOk result (λ journal. journal ≡ completed self) }
+    #[tactic(auto, unfolding(crate::specs::Grammar::with_all_uppers))]
+    pub fn build(mut self, alloc: Global) -> Result<Journal, Memory>
+        ensures { IfOk result (λ journal. journal ≡ with_all_uppers self) }
     {
         pad_to(alloc, &mut self.uppers, self.pages as usize)?;
-        let Draft {
+        let JournalBuilder {
             pages,
             roots,
             slots,

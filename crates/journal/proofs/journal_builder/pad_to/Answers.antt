@@ -1,7 +1,7 @@
 use Rattle.std.proofs.Common.{◌≡◌, ◌∙◌, ap, arith, min}
 use Rattle.journal.proofs.Padding.{padded}
 use Rattle.journal.specs.Grammar.{up_to}
-use Rattle.journal.proofs.drafts.pad_to.Goals as goal
+use Rattle.journal.proofs.journal_builder.pad_to.Goals as goal
 
 pub loop-preserved : goal.loop-preserved
 loop-preserved c = (
