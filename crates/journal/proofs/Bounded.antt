@@ -187,7 +187,7 @@ either_bounds : (journal next : Journal) (rest : Option (List (List ℕ))) (fiel
 either_bounds journal next None fields h e = entry_bounds journal next fields h e
 either_bounds journal next (Some rest) fields h e = upper_bounds journal next rest h e
 
--- a draft in bounds
+-- a journal so far that is in bounds
 abbrev IsBoundedBuilder : Journal → Type 0
 IsBoundedBuilder journal = HasBuilderBounds journal.layout
 

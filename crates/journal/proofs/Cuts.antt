@@ -53,9 +53,9 @@ cut_says text line rest = MatchOption rest (text ≡ line) (λ after. text ≡ l
 
 pub lines_cut_some : (text line : List ℕ) (rest : Option (Bor (List ℕ))) (after : Bor (List ℕ)) → All no_lf line → cut_says text line rest → rest ≡ Some after → lines_of text ≡ line ∷ lines_of after.now
 lines_cut_some text line rest after apart whole is =
-    let said : cut_says text line (Some after) = subst (cut_says text line) is whole in ap lines_of said ∙ lines_of_line line after.now apart
+    let so_far : cut_says text line (Some after) = subst (cut_says text line) is whole in ap lines_of so_far ∙ lines_of_line line after.now apart
 
 pub lines_cut_none : (text line : List ℕ) (rest : Option (Bor (List ℕ))) → All no_lf line → cut_says text line rest → rest ≡ None → false ≡ (length text == 0) → lines_of text ≡ line ∷ []
 lines_cut_none text line rest apart whole is some =
-    let said : cut_says text line None = subst (cut_says text line) is whole in
-    ap lines_of said ∙ lines_of_last line (some ∙ ap (λ bytes. length bytes == 0) said) apart
+    let so_far : cut_says text line None = subst (cut_says text line) is whole in
+    ap lines_of so_far ∙ lines_of_last line (some ∙ ap (λ bytes. length bytes == 0) so_far) apart

@@ -14,7 +14,7 @@ use Rattle.journal.proofs.PrintedLines.{entry_plain, layout_plain, upper_plain}
 use Rattle.journal.proofs.PrintedNumbers.{number_decimal}
 use Rattle.journal.proofs.PrintedFields.{IsPlainLine, lines_of_printed, no_comment_join, fields_of_join}
 use Rattle.journal.specs.Layout.{InBounds, UppersFit, ascends}
-use Rattle.journal.specs.Grammar.{after_line, with_all_uppers, journal_of, layout_of, fields_of, read_from, up_to, with_entry, with_line, with_upper}
+use Rattle.journal.specs.Grammar.{with_all_uppers, journal_of, layout_of, fields_of, read_from, up_to, with_entry, with_line, with_upper}
 use Rattle.journal.specs.Spelling.{entry_fields, journal_bytes, journal_lines, layout_fields, upper_lines}
 use Rattle.journal.specs.Typed.{Is32, IsTyped}
 use Rattle.journal.specs.declared.entries.Entry.{Entry}
@@ -25,17 +25,17 @@ use Rattle.journal.specs.declared.layouts.Layout.{Layout}
 abbrev joined : List (List ℕ) → List ℕ
 joined line = join_with_byte 32 line
 
-after_printed : (said : Option Journal) (line : List (List ℕ)) → IsPlainLine line → after_line said (joined line) ≡ option_map Some (with_line said line)
-unfolding after_line
-after_printed said [] plain = absurd plain
-after_printed said (field ∷ rest) plain =
-    ap (λ comment. if comment then Some said else option_map Some (with_line said (fields_of (joined (field ∷ rest))))) (no_comment_join field rest plain)
-    ∙ ap (λ fields. option_map Some (with_line said fields)) (fields_of_join field rest plain)
+read_printed : (so_far : Option Journal) (n : ℕ) (line : List (List ℕ)) (lines : List (List ℕ)) → IsPlainLine line → read_from so_far n (joined line ∷ lines) ≡ option_map_or (λ journal. read_from (Some journal) (n + 1) lines) (with_line so_far line) (Err n)
+read_printed so_far n [] lines plain = absurd plain
+read_printed so_far n (field ∷ rest) lines plain =
+    ap (λ comment. if comment then read_from so_far (n + 1) lines else option_map_or (λ journal. read_from (Some journal) (n + 1) lines) (with_line so_far (fields_of (joined (field ∷ rest)))) (Err n)) (no_comment_join field rest plain)
+    ∙ ap (λ fields. option_map_or (λ journal. read_from (Some journal) (n + 1) lines) (with_line so_far fields) (Err n)) (fields_of_join field rest plain)
 
 -- what a printed line says, and then the others
-read_step : (said : Option Journal) (next : Journal) (n : ℕ) (line : List (List ℕ)) (lines : List (List ℕ)) → IsPlainLine line → with_line said line ≡ Some next → read_from said n (joined line ∷ lines) ≡ read_from (Some next) (n + 1) lines
-read_step said next n line lines plain e =
-    ap (λ after. option_map_or (λ now_said. read_from now_said (n + 1) lines) after (Err n)) (after_printed said line plain ∙ ap (option_map Some) e)
+read_step : (so_far : Option Journal) (next : Journal) (n : ℕ) (line : List (List ℕ)) (lines : List (List ℕ)) → IsPlainLine line → with_line so_far line ≡ Some next → read_from so_far n (joined line ∷ lines) ≡ read_from (Some next) (n + 1) lines
+read_step so_far next n line lines plain e =
+    read_printed so_far n line lines plain
+    ∙ ap (λ after. option_map_or (λ journal. read_from (Some journal) (n + 1) lines) after (Err n)) e
 
 abbrev journal_with : Layout → List Entry → Journal
 journal_with layout entries = record { layout = layout; entries = entries }

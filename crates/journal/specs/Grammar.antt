@@ -307,16 +307,13 @@ abbrev pub at_end : Option Journal → ℕ → Result Journal ℕ
 at_end None line = Err line
 at_end (Some journal) line = Ok (with_all_uppers journal)
 
--- what the lines up to a further one say, where one that begins with `#` says nothing
-unfoldable pub after_line : Option Journal → List ℕ → Option (Option Journal)
-after_line said text = if is_comment text then Some said else option_map Some (with_line said (fields_of text))
-
 -- the journal that the lines before number `line` and the lines left spell, or the number of the first
--- line that is outside the grammar
+-- line that is outside the grammar; a line that begins with `#` changes nothing
 abbrev pub read_from : Option Journal → ℕ → List (List ℕ) → Result Journal ℕ
-read_from said line [] = at_end said line
-read_from said line (text ∷ rest) =
-    option_map_or (λ now_said. read_from now_said (line + 1) rest) (after_line said text) (Err line)
+read_from so_far line [] = at_end so_far line
+read_from so_far line (text ∷ rest) =
+    if is_comment text then read_from so_far (line + 1) rest
+    else option_map_or (λ journal. read_from (Some journal) (line + 1) rest) (with_line so_far (fields_of text)) (Err line)
 
 -- the journal that a text spells, or the number, from 1, of its first line outside the grammar
 abbrev pub journal_of : List ℕ → Result Journal ℕ

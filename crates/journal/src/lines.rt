@@ -23,9 +23,9 @@ fn parse_take(fields: Fields) -> Option<What>
 {
     let (first, second, third) = fields.triple()?;
     Some(What::Take {
-        frame: parse_u32_or_dash(first)?,
+        frame: parse_u32_or_dash(first)?.number(),
         page: parse_u32(second)?,
-        victim: parse_u32_or_dash(third)?,
+        victim: parse_u32_or_dash(third)?.number(),
     })
 }
 

@@ -1,6 +1,8 @@
 ghost use Rattle.std.specs.Prelude.{◌≡◌, ◌≤◌, ◌^◌};
 ghost use Rattle.std.specs.Char.{is_ascii_digit};
 ghost use Rattle.std.specs.List.{list_all};
+ghost use Rattle.std.specs.Option.{option_map};
+ghost use Rattle.journal.specs.FieldNumber.{number_in};
 ghost use Rattle.journal.specs.Grammar.{digest_of, is_digest_digit, is_numeral, number_of, number_or_dash_of};
 
 use crate::fields::is_word;
@@ -67,14 +69,37 @@ pub fn parse_u8(field: &[u8]) -> Option<u8>
     }
 }
 
-/// The number of 32 bits that a field spells, or None at `-`.
-pub fn parse_u32_or_dash(field: &[u8]) -> Option<Option<u32>>
-    ensures { result ≡ number_or_dash_of field.now }
+/// A field that has a number, or `-` for none.
+#[derive(Clone, Copy)]
+pub enum Field {
+    /// The number.
+    Number(u32),
+    /// `-`.
+    Dash,
+}
+
+impl Field {
+    ghost use Rattle.journal.specs.FieldNumber.{number_in};
+
+    /// Returns the number, or None for `-`.
+    pub fn number(self) -> Option<u32>
+        ensures { result ≡ number_in self }
+    {
+        match self {
+            Field::Number(number) => Some(number),
+            Field::Dash => None,
+        }
+    }
+}
+
+/// The number of 32 bits that a field spells, or `-`.
+pub fn parse_u32_or_dash(field: &[u8]) -> Option<Field>
+    ensures { option_map number_in result ≡ number_or_dash_of field.now }
 {
     if is_word(field, b"-") {
-        Some(None)
+        Some(Field::Dash)
     } else {
-        Some(Some(parse_u32(field)?))
+        Some(Field::Number(parse_u32(field)?))
     }
 }
 

@@ -2,13 +2,26 @@ ghost use Rattle.std.specs.Prelude.{◌≡◌, ◌<◌, ◌∷◌, Err, IfOk, Ma
 ghost use Rattle.journal.specs.Layout.{InBounds};
 ghost use Rattle.std.specs.List.{All};
 ghost use Rattle.journal.specs.Typed.{IsTyped};
-ghost use Rattle.journal.specs.Grammar.{after_line, is_comment, journal_of, lines_of, with_line};
+ghost use Rattle.journal.specs.Grammar.{is_comment, journal_of, lines_of, with_line};
+ghost use Rattle.journal.specs.LineResult.{line_result};
+ghost use Rattle.journal.specs.declared.reading.LineResult.TheVariants as LineResult;
 
 use crate::fields::{Fields, cut_at};
 use crate::journal_builder::JournalBuilder;
 use crate::journals::{Journal, JournalFault};
 use geom_core::Memory;
 use std::alloc::Global;
+
+/// What one line is, after the lines before it.
+#[derive(Drop)]
+pub enum LineResult {
+    /// A comment: what was read so far stays as it is.
+    Comment,
+    /// A line of the grammar: what was read so far, with this line.
+    Accepted(JournalBuilder),
+    /// A line outside the grammar.
+    Bad,
+}
 
 /// The first line of a text, and what stands after its LF; None at the text's end.
 fn first_line(text: &[u8]) -> Option<(&[u8], &[u8])>
@@ -55,39 +68,22 @@ fn with_line(
     }
 }
 
-/// What the lines up to a further one say, where one that begins with `#` says nothing.
-#[tactic(auto, unfolding(crate::specs::Grammar::after_line))]
-fn after_line(
+/// Reads one line, and takes what was read so far unless the line is a comment.
+#[tactic(auto, unfolding(crate::specs::LineResult::line_result))]
+fn read_line(
     alloc: Global,
-    so_far: Option<JournalBuilder>,
+    so_far: &mut Option<JournalBuilder>,
     text: &[u8],
-) -> Result<Option<Option<JournalBuilder>>, Memory>
-    ensures { IfOk result (λ found. found ≡ after_line so_far text.now) }
+) -> Result<LineResult, Memory>
+    ensures line_result { IfOk result (λ read. read ≡ line_result so_far.old text.now) }
+    ensures unchanged { result ≡ Ok LineResult.Comment → so_far.new ≡ so_far.old }
 {
     if is_comment(text) {
-        return Ok(Some(so_far));
+        return Ok(LineResult::Comment);
     }
-    Ok(with_line(alloc, so_far, Fields::from_line(text))?.map(Some))
-}
-
-/// The journal that a text spells, or the number of its first line outside the grammar.
-fn read_lines(alloc: Global, text: &[u8]) -> Result<Result<Journal, u64>, Memory>
-    ensures { IfOk result (λ read. read ≡ journal_of text.now) }
-{
-    let mut so_far = None;
-    let mut line = 1;
-    let mut left = text;
-    while let Some((this, rest)) = first_line(left) {
-        let Some(next_so_far) = after_line(alloc, so_far, this)? else {
-            return Ok(Err(line));
-        };
-        so_far = next_so_far;
-        line += 1;
-        left = rest;
-    }
-    match so_far {
-        Some(builder) => Ok(Ok(builder.build(alloc)?)),
-        None => Ok(Err(line)),
+    match with_line(alloc, so_far.take(), Fields::from_line(text))? {
+        Some(builder) => Ok(LineResult::Accepted(builder)),
+        None => Ok(LineResult::Bad),
     }
 }
 
@@ -124,10 +120,21 @@ pub fn read_journal(alloc: Global, text: &[u8]) -> Result<Journal, JournalFault>
     ensures outside { (line : ℕ) → result ≡ Err (JournalFault.Line line) →
         journal_of text.now ≡ Err line }
 {
-    match read_lines(alloc, text) {
-        Ok(Ok(journal)) => Ok(journal),
-        Ok(Err(line)) => Err(JournalFault::Line { line }),
-        Err(Memory) => Err(JournalFault::Memory),
+    let mut so_far = None;
+    let mut line = 1;
+    let mut left = text;
+    while let Some((this, rest)) = first_line(left) {
+        match read_line(alloc, &mut so_far, this)? {
+            LineResult::Comment => {}
+            LineResult::Accepted(builder) => so_far = Some(builder),
+            LineResult::Bad => return Err(JournalFault::Line { line }),
+        }
+        line += 1;
+        left = rest;
+    }
+    match so_far {
+        Some(builder) => Ok(builder.build(alloc)?),
+        None => Err(JournalFault::Line { line }),
     }
 }
 

@@ -1,6 +1,6 @@
 use Rattle.std.proofs.Common.{◌≡◌, ◌≤◌, ◌+◌, length}
 use Rattle.journal.specs.Grammar.{journal_of, lines_of, read_from}
-use Rattle.journal.proofs.reading.read_lines.Given as goal
+use Rattle.journal.proofs.reading.read_journal.Given as goal
 
 -- the text spells what the lines so far and the lines left do
 abbrev pub invariant-loop-this : goal.invariant-loop-this
