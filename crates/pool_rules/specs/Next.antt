@@ -2,10 +2,10 @@
 use Rattle.std.specs.Prelude.{◌==◌, ◌&&◌, ℕ, List, Bool, true, false, not, find, nat_lt, if◌then◌else◌, Option, None, Some}
 use Rattle.std.specs.List.{list_all}
 use Rattle.journal.specs.declared.entries.Entry.{Entry}
-use Rattle.pool_rules.specs.declared.wants.Want.{Want}
+use Rattle.pool_rules.specs.declared.want.Want.{Want}
 use Rattle.journal.specs.declared.layouts.Layout.{Layout}
-use Rattle.pool_rules.specs.declared.nexts.Next.{Next}
-use Rattle.pool_rules.specs.declared.nexts.Next.TheVariants.{Take, Full, Busy, Nothing}
+use Rattle.pool_rules.specs.declared.next_load.Next.{Next}
+use Rattle.pool_rules.specs.declared.next_load.Next.TheVariants.{Take, Full, Busy, Nothing}
 use Rattle.journal.specs.Layout.{uppers_of}
 use Rattle.pool_rules.specs.State.{State, is_resident, is_loading, is_held, held_count, state_of}
 use Rattle.pool_rules.specs.Victim.{victim_for}

@@ -5,7 +5,7 @@ use Rattle.journal.specs.declared.entries.Entry.{Entry}
 use Rattle.journal.specs.declared.entries.What.{What}
 use Rattle.journal.specs.declared.entries.What.TheVariants.{Pin, Settle, Ask, Narrow, Unpin, Take, Install, Fail, Spoil, Starve, Stop}
 use Rattle.pool_rules.specs.Frame.{Frame}
-use Rattle.pool_rules.specs.declared.wants.Want.{Want}
+use Rattle.pool_rules.specs.declared.want.Want.{Want}
 use Rattle.journal.specs.declared.layouts.Layout.{Layout}
 use Rattle.journal.specs.Layout.{page_numbers}
 
@@ -53,8 +53,8 @@ abbrev pub marked : ℕ → List ℕ → List Bool
 marked pages numbers = fold (λ marks page. slice_set marks page true) (replicate pages false) numbers
 
 -- before any entry the root pages are resident
-abbrev pub opening : Layout → State
-opening layout = record {
+abbrev pub initial_state : Layout → State
+initial_state layout = record {
   resident = map (λ page. nat_lt page layout.roots) (page_numbers layout);
   loading = replicate layout.pages None;
   frames = [];
@@ -80,26 +80,26 @@ loading_after by (Starve page) loading = slice_set loading page None
 loading_after by _ loading = loading
 
 -- the frame in the place of the one of its number, or at the end
-abbrev pub put : Frame → List Frame → List Frame
-put frame [] = frame ∷ []
-put frame (f ∷ frames) = if f.number == frame.number then frame ∷ frames else f ∷ put frame frames
+abbrev pub replace_frame : Frame → List Frame → List Frame
+replace_frame frame [] = frame ∷ []
+replace_frame frame (f ∷ frames) = if f.number == frame.number then frame ∷ frames else f ∷ replace_frame frame frames
 
 -- the frame, which also pins the page where it waits for it
-abbrev pub with_installed : List Want → ℕ → Frame → Frame
-with_installed wants page f =
+abbrev pub frame_after_install : List Want → ℕ → Frame → Frame
+frame_after_install wants page f =
     if waits_for wants f.number page then record f { pins = slice_set f.pins page true } else f
 
 -- Live frames and their pins: Pin makes its frame live, owned by the maker, and pins what is resident;
 -- Settle and Narrow, which only the owner makes, pin their pages instead; Unpin ends the frame
 abbrev pub frames_after : State → ℕ → What → List Frame
 frames_after s by (Pin frame) =
-    put (record { number = frame; owner = by; pins = s.resident }) s.frames
+    replace_frame (record { number = frame; owner = by; pins = s.resident }) s.frames
 frames_after s by (Settle frame pages missing) =
-    put (record { number = frame; owner = by; pins = marked (length s.resident) pages }) s.frames
+    replace_frame (record { number = frame; owner = by; pins = marked (length s.resident) pages }) s.frames
 frames_after s by (Narrow frame pages) =
-    put (record { number = frame; owner = by; pins = marked (length s.resident) pages }) s.frames
+    replace_frame (record { number = frame; owner = by; pins = marked (length s.resident) pages }) s.frames
 frames_after s by (Unpin frame) = filter (λ f. not (f.number == frame)) s.frames
-frames_after s by (Install page digest) = map (with_installed s.wants page) s.frames
+frames_after s by (Install page digest) = map (frame_after_install s.wants page) s.frames
 frames_after s by _ = s.frames
 
 -- the wants of other frames than this one that are live
@@ -139,8 +139,8 @@ stopped_after Stop stopped = true
 stopped_after _ stopped = stopped
 
 -- what an entry changes, but for the count of entries
-abbrev pub changed : State → ℕ → What → State
-changed s by what = record {
+abbrev pub state_after_event : State → ℕ → What → State
+state_after_event s by what = record {
   resident = resident_after what s.resident;
   loading = loading_after by what s.loading;
   frames = frames_after s by what;
@@ -151,12 +151,12 @@ changed s by what = record {
 }
 
 -- what an entry makes of the state
-abbrev pub after : State → Entry → State
-after s entry = record (changed s entry.by entry.what) { entries = s.entries + 1 }
+abbrev pub state_after : State → Entry → State
+state_after s entry = record (state_after_event s entry.by entry.what) { entries = s.entries + 1 }
 
 -- the state after a journal
 abbrev pub state_of : Layout → List Entry → State
-state_of layout journal = fold after (opening layout) journal
+state_of layout journal = fold state_after (initial_state layout) journal
 
 -- the residency after a journal: the numbers of the resident pages, ascending
 abbrev pub residency : Layout → List Entry → List ℕ

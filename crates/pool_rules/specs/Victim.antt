@@ -28,27 +28,27 @@ abbrev pub named_of : State → ℕ → ℕ
 named_of s page = slice_index_or s.named page 0
 
 -- of two candidates the one that was named less recently, of equals the second
-abbrev pub staler : State → Option ℕ → ℕ → Option ℕ
-staler s None candidate = Some candidate
-staler s (Some best) candidate =
+abbrev pub less_recently_used : State → Option ℕ → ℕ → Option ℕ
+less_recently_used s None candidate = Some candidate
+less_recently_used s (Some best) candidate =
     if nat_lt (named_of s best) (named_of s candidate) then Some best else Some candidate
 
 -- the victim: of the evictable pages the one named least recently, of equals the greatest number
 abbrev pub victim_for : Layout → State → ℕ → Option ℕ
-victim_for layout s page = fold (staler s) None (filter (is_evictable layout s page) (page_numbers layout))
+victim_for layout s page = fold (less_recently_used s) None (filter (is_evictable layout s page) (page_numbers layout))
 
 -- the victim for the page after a journal
 abbrev pub victim_after : Layout → List Entry → ℕ → Option ℕ
 victim_after layout journal page = victim_for layout (state_of layout journal) page
 
 -- whether p is named less recently than q, or as recently and of no smaller number
-abbrev pub IsStaler : State → ℕ → ℕ → Type 0
-IsStaler s p q = (named_of s p < named_of s q) ⊎ ((named_of s p ≡ named_of s q) × (q ≤ p))
+abbrev pub IsLessRecent : State → ℕ → ℕ → Type 0
+IsLessRecent s p q = (named_of s p < named_of s q) ⊎ ((named_of s p ≡ named_of s q) × (q ≤ p))
 
 -- what a victim is: it may be evicted, and of all pages that may be it comes first
 pub record IsVictim (layout : Layout) (s : State) (page victim : ℕ) : Type 0 where
   pub evictable : IsTrue (is_evictable layout s page victim)
-  pub first : (q : ℕ) → q < layout.pages → IsTrue (is_evictable layout s page q) → IsStaler s victim q
+  pub first : (q : ℕ) → q < layout.pages → IsTrue (is_evictable layout s page q) → IsLessRecent s victim q
 
 -- no page may be evicted
 abbrev pub HasNoVictim : Layout → State → ℕ → Type 0

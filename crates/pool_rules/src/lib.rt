@@ -6,8 +6,8 @@
 #![tactic(auto)]
 
 pub mod laws;
-mod nexts;
-mod wants;
+mod next_load;
+mod want;
 
-pub use nexts::Next;
-pub use wants::Want;
+pub use next_load::Next;
+pub use want::Want;
