@@ -12,6 +12,7 @@ use Rattle.std.proofs.lemmas.List.{get_or_past, length-replicate, get_or-replica
 use Rattle.std.proofs.lemmas.List.Elements.{All-cons, All-nil}
 use Rattle.journal.proofs.FittingUppers.{all_below-from_All, at_least, both}
 use Rattle.journal.proofs.KeptByLines.{LinesKeep, journal_keeps}
+use Rattle.geom_core.specs.declared.limits.TheConstants.{MAX_PAGES}
 use Rattle.journal.specs.Layout.{CountsFit, InBounds, UppersFit, ascends}
 use Rattle.journal.specs.Grammar.{◌>>=◌, after_word, below, with_all_uppers, split_first, is_empty, is_numeral, journal_of, layout_of, number_of, numbers_of, some_numbers_of, triple, up_to, with_entry, with_line, with_upper, entry_of}
 use Rattle.journal.specs.declared.journals.Journal.{Journal}
@@ -73,7 +74,7 @@ tested false b x y e = cc
 abbrev started : ℕ → ℕ → ℕ → Layout
 started pages roots slots = record { pages = pages; roots = roots; slots = slots; uppers = [] }
 
-started_bounds : (pages roots slots : ℕ) → pages < 2 ^ 23 + 1 → roots < pages + 1 → slots < 2 ^ 23 + 1 → 1 ≤ roots → roots ≤ slots → HasBuilderBounds (started pages roots slots)
+started_bounds : (pages roots slots : ℕ) → pages < MAX_PAGES + 1 → roots < pages + 1 → slots < MAX_PAGES + 1 → 1 ≤ roots → roots ≤ slots → HasBuilderBounds (started pages roots slots)
 started_bounds pages roots slots p r s some hold =
     record {
       listed = omega arith;
@@ -92,9 +93,9 @@ unfolding layout_of
 layout_bounds fields layout e =
     let a = bind_some (after_word (codes "layout") fields) _ layout e in
     let b = bind_some (triple a.0) _ layout a.2 in
-    let pages = bind_some (number_of (2 ^ 23 + 1) b.0.0) _ layout b.2 in
+    let pages = bind_some (number_of (MAX_PAGES + 1) b.0.0) _ layout b.2 in
     let roots = bind_some (number_of (pages.0 + 1) b.0.1) _ layout pages.2 in
-    let slots = bind_some (number_of (2 ^ 23 + 1) b.0.2) _ layout roots.2 in
+    let slots = bind_some (number_of (MAX_PAGES + 1) b.0.2) _ layout roots.2 in
     let t = tested (nat_le 1 roots.0) (nat_le roots.0 slots.0) (started pages.0 roots.0 slots.0) layout slots.2 in
     subst HasBuilderBounds t.2
     (started_bounds pages.0 roots.0 slots.0 (number_lt _ _ _ pages.1) (number_lt _ _ _ roots.1) (number_lt _ _ _ slots.1) (at_least _ _ t.0) (at_least _ _ t.1))

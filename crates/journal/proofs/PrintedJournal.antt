@@ -13,6 +13,7 @@ use Rattle.journal.proofs.PrintedEntries.{entry_no_upper, entry_printed, numbers
 use Rattle.journal.proofs.PrintedLines.{entry_plain, layout_plain, upper_plain}
 use Rattle.journal.proofs.PrintedNumbers.{number_decimal}
 use Rattle.journal.proofs.PrintedFields.{IsPlainLine, lines_of_printed, no_comment_join, fields_of_join}
+use Rattle.geom_core.specs.declared.limits.TheConstants.{MAX_PAGES}
 use Rattle.journal.specs.Layout.{InBounds, UppersFit, ascends}
 use Rattle.journal.specs.Grammar.{with_all_uppers, journal_of, layout_of, fields_of, read_from, up_to, with_entry, with_line, with_upper}
 use Rattle.journal.specs.Spelling.{entry_fields, journal_bytes, journal_lines, layout_fields, upper_lines}
@@ -60,7 +61,7 @@ entries_read (entry ∷ rest) so_far layout n h =
 abbrev with_lists : Layout → List (List ℕ) → Layout
 with_lists layout uppers = record layout { uppers = uppers }
 
-upper_line : (layout : Layout) (page upper : ℕ) (uppers : List ℕ) → length layout.uppers ≤ page → page < layout.pages → layout.pages ≤ 2 ^ 23 → UppersFit page (upper ∷ uppers) → with_line (Some (journal_with layout [])) (codes "upper" ∷ decimal page ∷ decimal upper ∷ map decimal uppers) ≡ Some (journal_with (with_lists layout (up_to layout.uppers page ++ (upper ∷ uppers) ∷ [])) [])
+upper_line : (layout : Layout) (page upper : ℕ) (uppers : List ℕ) → length layout.uppers ≤ page → page < layout.pages → layout.pages ≤ MAX_PAGES → UppersFit page (upper ∷ uppers) → with_line (Some (journal_with layout [])) (codes "upper" ∷ decimal page ∷ decimal upper ∷ map decimal uppers) ≡ Some (journal_with (with_lists layout (up_to layout.uppers page ++ (upper ∷ uppers) ∷ [])) [])
 unfolding with_line with_upper
 upper_line layout page upper uppers short lt fits are =
     let number = number_decimal layout.pages page lt (omega (arith, lt, fits)) in
@@ -108,7 +109,7 @@ unfolding with_all_uppers
 all_uppers_is layout entries page e =
     ap (answer layout entries) (ap (up_to layout.uppers) (sym e) ∙ sym (append-nil (up_to layout.uppers page)))
 
-uppers_read : (rest : List (List ℕ)) (layout : Layout) (page n : ℕ) (entries : List Entry) → length layout.uppers ≤ page → page + length rest ≡ layout.pages → layout.pages ≤ 2 ^ 23 → ListsFrom page rest → All IsTyped entries → read_from (Some (journal_with layout [])) n (map joined (upper_lines page rest ++ map entry_fields entries)) ≡ answer layout entries (up_to layout.uppers page ++ rest)
+uppers_read : (rest : List (List ℕ)) (layout : Layout) (page n : ℕ) (entries : List Entry) → length layout.uppers ≤ page → page + length rest ≡ layout.pages → layout.pages ≤ MAX_PAGES → ListsFrom page rest → All IsTyped entries → read_from (Some (journal_with layout [])) n (map joined (upper_lines page rest ++ map entry_fields entries)) ≡ answer layout entries (up_to layout.uppers page ++ rest)
 uppers_read [] layout page n entries short all fits lists h =
     entries_read entries [] layout n h ∙ all_uppers_is layout entries page (omega (arith, all))
 uppers_read ([] ∷ more) layout page n entries short all fits lists h =
@@ -130,15 +131,15 @@ layout_line : (layout : Layout) → InBounds layout → with_line None (layout_f
 unfolding with_line layout_of
 layout_line layout h =
     let p = h.counts.page_limit in let r = h.counts.roots_are_pages in let s = h.counts.slot_limit in
-    let pages = number_decimal (2 ^ 23 + 1) layout.pages (omega (arith, p)) (omega (arith, p)) in
+    let pages = number_decimal (MAX_PAGES + 1) layout.pages (omega (arith, p)) (omega (arith, p)) in
     let roots = number_decimal (layout.pages + 1) layout.roots (omega (arith, r)) (omega (arith, p, r)) in
-    let slots = number_decimal (2 ^ 23 + 1) layout.slots (omega (arith, s)) (omega (arith, s)) in
+    let slots = number_decimal (MAX_PAGES + 1) layout.slots (omega (arith, s)) (omega (arith, s)) in
     let some = is_least 1 layout.roots h.counts.some_root in
     let hold = is_least layout.roots layout.slots h.counts.roots_fit in
     simp (pages, roots, slots, some, hold) refl
 
 -- each line has plain fields
-uppers_plain : (rest : List (List ℕ)) (page : ℕ) → page + length rest ≤ 2 ^ 23 → ListsFrom page rest → All IsPlainLine (upper_lines page rest)
+uppers_plain : (rest : List (List ℕ)) (page : ℕ) → page + length rest ≤ MAX_PAGES → ListsFrom page rest → All IsPlainLine (upper_lines page rest)
 uppers_plain [] page fits lists = All-nil IsPlainLine
 uppers_plain ([] ∷ more) page fits lists = uppers_plain more (page + 1) (omega (arith, fits)) lists.1
 uppers_plain ((upper ∷ uppers) ∷ more) page fits lists =

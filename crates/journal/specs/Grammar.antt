@@ -8,6 +8,7 @@ use Rattle.std.specs.Str.{bytes_eq}
 use Rattle.std.specs.Str.Parse.{digits_value}
 use Rattle.hex.specs.Hex.{decode_sized}
 use Rattle.geom_core.specs.declared.digests.Digest32.{Digest32}
+use Rattle.geom_core.specs.declared.limits.TheConstants.{MAX_PAGES}
 use Rattle.journal.specs.declared.entries.Entry.{Entry}
 use Rattle.journal.specs.declared.entries.Spoilt.{Spoilt}
 use Rattle.journal.specs.declared.entries.Spoilt.TheVariants.{Digest, Grammar, Short}
@@ -257,15 +258,15 @@ entry_of fields = do
   what ← event_of word more
   Some (record { by = by; what = what })
 
--- `layout PAGES ROOTS SLOTS`: at most 2^23 pages and slots, root pages from 1 to the pages, and slots
+-- `layout PAGES ROOTS SLOTS`: at most MAX_PAGES pages and slots, root pages from 1 to the pages, and slots
 -- for all of them; no page has uppers yet
 unfoldable pub layout_of : List (List ℕ) → Option Layout
 layout_of fields = do
   rest ← after_word (codes "layout") fields
   (first, second, third) ← triple rest
-  pages ← number_of (2 ^ 23 + 1) first
+  pages ← number_of (MAX_PAGES + 1) first
   roots ← number_of (pages + 1) second
-  slots ← number_of (2 ^ 23 + 1) third
+  slots ← number_of (MAX_PAGES + 1) third
   if nat_le 1 roots && nat_le roots slots
       then Some (record { pages = pages; roots = roots; slots = slots; uppers = [] })
       else None

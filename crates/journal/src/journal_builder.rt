@@ -9,11 +9,12 @@ use crate::lines::parse_entry;
 use crate::numbers::parse_below;
 use crate::page_lists::parse_some_numbers;
 use crate::pages::ascends;
+use geom_core::limits::MAX_PAGES;
 use geom_core::{Memory, Nums};
 use std::alloc::Global;
 use std::marker::Model;
 
-/// Gives each page before `page` its list, an empty one where it has none yet.
+/// Appends an empty list for each page below `page` that has none yet.
 fn pad_to(alloc: Global, uppers: &mut Vec<Nums>, page: usize) -> Result<(), Memory>
     ensures { OnOk result (uppers.new.items ≡ up_to uppers.old.items page) }
 {
@@ -23,7 +24,8 @@ fn pad_to(alloc: Global, uppers: &mut Vec<Nums>, page: usize) -> Result<(), Memo
     Ok(())
 }
 
-/// What the lines so far say. A contract sees a journal whose list of uppers may still be short.
+/// A journal that is read line by line. A contract sees a `Journal` whose list of uppers may end before
+/// the last page.
 #[derive(Drop)]
 pub struct JournalBuilder {
     pages: u32,
@@ -49,16 +51,17 @@ impl JournalBuilder {
     ghost use Rattle.std.specs.Option.{option_map};
     ghost use Rattle.journal.specs.Grammar.{with_all_uppers, layout_of, with_entry, with_upper};
 
-    /// `layout PAGES ROOTS SLOTS`.
+    /// Returns a journal without uppers and entries from the fields of `layout PAGES ROOTS SLOTS`, or None
+    /// if they are not in the grammar.
     #[tactic(auto, unfolding(crate::specs::Grammar::layout_of))]
     pub fn from_layout_line(alloc: Global, fields: Fields) -> Option<JournalBuilder>
         ensures { result ≡
             option_map (λ layout. record { layout = layout; entries = [] }) (layout_of fields.entry) }
     {
         let (first, second, third) = fields.after_word(b"layout")?.triple()?;
-        let pages = parse_below(first, (1 << 23) + 1)?;
+        let pages = parse_below(first, u64::from(MAX_PAGES) + 1)?;
         let roots = parse_below(second, u64::from(pages) + 1)?;
-        let slots = parse_below(third, (1 << 23) + 1)?;
+        let slots = parse_below(third, u64::from(MAX_PAGES) + 1)?;
         if 1 <= roots && roots <= slots {
             Some(JournalBuilder {
                 pages,
@@ -72,7 +75,8 @@ impl JournalBuilder {
         }
     }
 
-    /// The builder with `P L` of an `upper` line more.
+    /// Appends the uppers of a page, from the fields of an `upper` line after its first word: `P L`. Returns
+    /// None if they are not in the grammar or out of order.
     #[tactic(auto, unfolding(crate::specs::Grammar::with_upper))]
     pub fn with_upper(
         mut self,
@@ -102,7 +106,7 @@ impl JournalBuilder {
         }
     }
 
-    /// The builder with the entry of a line more.
+    /// Appends the entry of a line. Returns None if the line is not in the grammar.
     #[tactic(auto, unfolding(crate::specs::Grammar::with_entry))]
     pub fn with_entry(
         mut self,
@@ -118,7 +122,7 @@ impl JournalBuilder {
         Ok(Some(self))
     }
 
-    /// The journal, where each page has its list.
+    /// Returns the journal; each page after the last `upper` line has no uppers.
     #[tactic(auto, unfolding(crate::specs::Grammar::with_all_uppers))]
     pub fn build(mut self, alloc: Global) -> Result<Journal, Memory>
         ensures { IfOk result (λ journal. journal ≡ with_all_uppers self) }
