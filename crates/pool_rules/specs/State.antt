@@ -1,4 +1,4 @@
--- How the pool stands after a journal: a fold over its entries, from the oldest on.
+-- The state of the pool after a journal: a fold over its entries, the oldest first.
 use Rattle.std.specs.Prelude.{◌==◌, ◌+◌, ◌&&◌, ◌||◌, ℕ, Bool, true, false, not, List, [], ◌∷◌, ◌++◌, length, map, filter, fold, nat_lt, replicate, if◌then◌else◌, Option, None, Some, is_some, count_by, slice_set, slice_index_or}
 use Rattle.std.specs.List.{list_any}
 use Rattle.journal.specs.declared.entries.Entry.{Entry}
@@ -19,9 +19,10 @@ pub record State : Type 0 where
   pub frames : List Frame
   -- the pages that frames want, the oldest want first
   pub wants : List Want
-  -- by page: how many entries there were when one last named it, that one with them; 0 where none did
+  -- by page: when it was last used, as the number of entries up to and including the last Settle, Narrow or
+  -- Install that has it; 0 if none has
   pub named : List ℕ
-  -- whether a Stop stands
+  -- whether the journal has a Stop
   pub stopped : Bool
   -- how many entries there are
   pub entries : ℕ
@@ -79,12 +80,12 @@ loading_after by (Spoil page why) loading = slice_set loading page None
 loading_after by (Starve page) loading = slice_set loading page None
 loading_after by _ loading = loading
 
--- the frame in the place of the one of its number, or at the end
+-- the frames with the one of its number replaced by this frame, or this frame appended
 abbrev pub replace_frame : Frame → List Frame → List Frame
 replace_frame frame [] = frame ∷ []
 replace_frame frame (f ∷ frames) = if f.number == frame.number then frame ∷ frames else f ∷ replace_frame frame frames
 
--- the frame, which also pins the page where it waits for it
+-- the frame after the page is installed: it also pins the page if it waits for it
 abbrev pub frame_after_install : List Want → ℕ → Frame → Frame
 frame_after_install wants page f =
     if waits_for wants f.number page then record f { pins = slice_set f.pins page true } else f
@@ -113,7 +114,7 @@ wants_of frame settled pages = map (λ page. record { frame = frame; page = page
 abbrev pub wants_without : ℕ → List Want → List Want
 wants_without page wants = filter (λ w. not (w.page == page)) wants
 
--- Wants: Settle and Ask put theirs behind those of the other live frames, the end of a load removes
+-- Wants: Settle and Ask append theirs after those of the other live frames, the end of a load removes
 -- all wants of its page
 abbrev pub wants_after : State → What → List Want
 wants_after s (Settle frame pages missing) = wants_of_others s frame ++ wants_of frame true missing
@@ -127,7 +128,7 @@ wants_after s _ = s.wants
 abbrev pub name_at : ℕ → List ℕ → List ℕ → List ℕ
 name_at place pages named = fold (λ all page. slice_set all page place) named pages
 
--- Named: Settle and Narrow name their pages, Install its page
+-- Last use: Settle and Narrow use their pages, Install uses its page
 abbrev pub named_after : State → What → List ℕ
 named_after s (Settle frame pages missing) = name_at (s.entries + 1) pages s.named
 named_after s (Narrow frame pages) = name_at (s.entries + 1) pages s.named
@@ -138,7 +139,7 @@ abbrev pub stopped_after : What → Bool → Bool
 stopped_after Stop stopped = true
 stopped_after _ stopped = stopped
 
--- what an entry changes, but for the count of entries
+-- the state after an event, but for the count of entries
 abbrev pub state_after_event : State → ℕ → What → State
 state_after_event s by what = record {
   resident = resident_after what s.resident;
@@ -150,7 +151,7 @@ state_after_event s by what = record {
   entries = s.entries;
 }
 
--- what an entry makes of the state
+-- the state after an entry
 abbrev pub state_after : State → Entry → State
 state_after s entry = record (state_after_event s entry.by entry.what) { entries = s.entries + 1 }
 

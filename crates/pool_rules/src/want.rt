@@ -1,10 +1,10 @@
-/// A page that a frame wants to be loaded.
+/// A frame's pending request to load a page.
 #[derive(Clone, Copy, Debug, PartialEq, Eq)]
 pub struct Want {
     /// The frame that wants it.
     pub frame: u32,
     /// The page that it wants.
     pub page: u32,
-    /// Whether the frame settles: it then pins the page once it is installed.
+    /// Whether a Settle made the request; the frame then pins the page when it is installed. An Ask does not.
     pub settled: bool,
 }
