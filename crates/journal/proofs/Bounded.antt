@@ -12,8 +12,9 @@ use Rattle.std.proofs.lemmas.List.{get_or_past, length-replicate, get_or-replica
 use Rattle.std.proofs.lemmas.List.Elements.{All-cons, All-nil}
 use Rattle.journal.proofs.FittingUppers.{all_below-from_All, at_least, both}
 use Rattle.journal.proofs.KeptByLines.{LinesKeep, journal_keeps}
+use Rattle.geom_core.specs.declared.limits.TheConstants.{MAX_PAGES}
 use Rattle.journal.specs.Layout.{CountsFit, InBounds, UppersFit, ascends}
-use Rattle.journal.specs.Grammar.{◌>>=◌, after_word, below, completed, headed, is_empty, is_numeral, journal_of, layout_of, number_of, numbers_of, some_numbers_of, triple, up_to, with_entry, with_line, with_upper, entry_of}
+use Rattle.journal.specs.Grammar.{◌>>=◌, after_word, below, with_all_uppers, split_first, is_empty, is_numeral, journal_of, layout_of, number_of, numbers_of, some_numbers_of, triple, up_to, with_entry, with_line, with_upper, entry_of}
 use Rattle.journal.specs.declared.journals.Journal.{Journal}
 use Rattle.journal.specs.declared.layouts.Layout.{Layout}
 
@@ -38,29 +39,29 @@ test_lt : (test : Bool) (limit v n : ℕ) → (if test then below limit v else N
 test_lt true limit v n e = grind arith
 test_lt false limit v n e = cc
 
-pub number_lt : (limit : ℕ) (part : List ℕ) (n : ℕ) → number_of limit part ≡ Some n → n < limit
+pub number_lt : (limit : ℕ) (field : List ℕ) (n : ℕ) → number_of limit field ≡ Some n → n < limit
 unfolding number_of
-number_lt limit part n e = test_lt (is_numeral part) limit (digits_value 10 part) n e
+number_lt limit field n e = test_lt (is_numeral field) limit (digits_value 10 field) n e
 
 numbers_step : (limit n : ℕ) (more all : List ℕ) → n < limit → All (λ n. n < limit) more → Some (n ∷ more) ≡ Some all → All (λ n. n < limit) all
 numbers_step limit n more all lt rest e =
     let is : n ∷ more ≡ all = cc in subst (All (λ n. n < limit)) is (All-cons (λ n. n < limit) n more lt rest)
 
-numbers_lt : (limit : ℕ) (parts : List (List ℕ)) (numbers : List ℕ) → numbers_of limit parts ≡ Some numbers → All (λ n. n < limit) numbers
+numbers_lt : (limit : ℕ) (fields : List (List ℕ)) (numbers : List ℕ) → numbers_of limit fields ≡ Some numbers → All (λ n. n < limit) numbers
 numbers_lt limit [] numbers e =
     let is : [] ≡ numbers = cc in subst (All (λ n. n < limit)) is (All-nil (λ n. n < limit))
-numbers_lt limit (part ∷ rest) numbers e =
-    let first = bind_some (number_of limit part) _ numbers e in
+numbers_lt limit (field ∷ rest) numbers e =
+    let first = bind_some (number_of limit field) _ numbers e in
     let more = bind_some (numbers_of limit rest) _ numbers first.2 in
-    numbers_step limit first.0 more.0 numbers (number_lt limit part first.0 first.1) (numbers_lt limit rest more.0 more.1) more.2
+    numbers_step limit first.0 more.0 numbers (number_lt limit field first.0 first.1) (numbers_lt limit rest more.0 more.1) more.2
 
 -- numbers that were read are below their limit
-pub some_numbers_lt : (limit : ℕ) (parts : List (List ℕ)) (numbers : List ℕ) → some_numbers_of limit parts ≡ Some numbers → All (λ n. n < limit) numbers
+pub some_numbers_lt : (limit : ℕ) (fields : List (List ℕ)) (numbers : List ℕ) → some_numbers_of limit fields ≡ Some numbers → All (λ n. n < limit) numbers
 some_numbers_lt limit [] numbers e = cc
-some_numbers_lt limit (part ∷ rest) numbers e = numbers_lt limit (part ∷ rest) numbers e
+some_numbers_lt limit (field ∷ rest) numbers e = numbers_lt limit (field ∷ rest) numbers e
 
 -- what the lines up to some one say of the layout: it is in bounds, but for pages without a list yet
-pub record HasDraftBounds (layout : Layout) : Type 0 where
+pub record HasBuilderBounds (layout : Layout) : Type 0 where
   pub listed : length layout.uppers ≤ layout.pages
   pub counts : CountsFit layout
   pub below : EachIndex layout.uppers (λ page. UppersFit page (slice_index_or layout.uppers page []))
@@ -73,30 +74,30 @@ tested false b x y e = cc
 abbrev started : ℕ → ℕ → ℕ → Layout
 started pages roots slots = record { pages = pages; roots = roots; slots = slots; uppers = [] }
 
-started_bounds : (pages roots slots : ℕ) → pages < 2 ^ 23 + 1 → roots < pages + 1 → slots < 2 ^ 23 + 1 → 1 ≤ roots → roots ≤ slots → HasDraftBounds (started pages roots slots)
+started_bounds : (pages roots slots : ℕ) → pages < MAX_PAGES + 1 → roots < pages + 1 → slots < MAX_PAGES + 1 → 1 ≤ roots → roots ≤ slots → HasBuilderBounds (started pages roots slots)
 started_bounds pages roots slots p r s some hold =
     record {
       listed = omega arith;
       counts = record {
         some_root = some;
         roots_are_pages = omega (arith, r);
-        few_pages = omega (arith, p);
+        page_limit = omega (arith, p);
         roots_fit = hold;
-        few_slots = omega (arith, s);
+        slot_limit = omega (arith, s);
       };
       below = λ page lt. absurd (omega (arith, lt));
     }
 
-layout_bounds : (parts : List (List ℕ)) (layout : Layout) → layout_of parts ≡ Some layout → HasDraftBounds layout
+layout_bounds : (fields : List (List ℕ)) (layout : Layout) → layout_of fields ≡ Some layout → HasBuilderBounds layout
 unfolding layout_of
-layout_bounds parts layout e =
-    let a = bind_some (after_word (codes "layout") parts) _ layout e in
+layout_bounds fields layout e =
+    let a = bind_some (after_word (codes "layout") fields) _ layout e in
     let b = bind_some (triple a.0) _ layout a.2 in
-    let pages = bind_some (number_of (2 ^ 23 + 1) b.0.0) _ layout b.2 in
+    let pages = bind_some (number_of (MAX_PAGES + 1) b.0.0) _ layout b.2 in
     let roots = bind_some (number_of (pages.0 + 1) b.0.1) _ layout pages.2 in
-    let slots = bind_some (number_of (2 ^ 23 + 1) b.0.2) _ layout roots.2 in
+    let slots = bind_some (number_of (MAX_PAGES + 1) b.0.2) _ layout roots.2 in
     let t = tested (nat_le 1 roots.0) (nat_le roots.0 slots.0) (started pages.0 roots.0 slots.0) layout slots.2 in
-    subst HasDraftBounds t.2
+    subst HasBuilderBounds t.2
     (started_bounds pages.0 roots.0 slots.0 (number_lt _ _ _ pages.1) (number_lt _ _ _ roots.1) (number_lt _ _ _ slots.1) (at_least _ _ t.0) (at_least _ _ t.1))
 
 -- the list of a page that has none is one of uppers
@@ -139,12 +140,12 @@ counts_with : (layout : Layout) (uppers : List (List ℕ)) → CountsFit layout 
 counts_with layout uppers h = record {
   some_root = h.some_root;
   roots_are_pages = h.roots_are_pages;
-  few_pages = h.few_pages;
+  page_limit = h.page_limit;
   roots_fit = h.roots_fit;
-  few_slots = h.few_slots;
+  slot_limit = h.slot_limit;
 }
 
-given_bounds : (layout : Layout) (page : ℕ) (listed : List ℕ) → HasDraftBounds layout → length layout.uppers ≤ page → page < layout.pages → UppersFit page listed → HasDraftBounds (given layout page listed)
+given_bounds : (layout : Layout) (page : ℕ) (listed : List ℕ) → HasBuilderBounds layout → length layout.uppers ≤ page → page < layout.pages → UppersFit page listed → HasBuilderBounds (given layout page listed)
 given_bounds layout page listed h le lt are =
     record {
       listed = omega (arith, length-append (up_to layout.uppers page) (listed ∷ []), length-up_to layout.uppers page le, lt);
@@ -152,53 +153,53 @@ given_bounds layout page listed h le lt are =
       below = listed_below layout.uppers page listed le h.below are;
     }
 
-upper_bounds : (journal next : Journal) (parts : List (List ℕ)) → HasDraftBounds journal.layout → with_upper journal parts ≡ Some next → HasDraftBounds next.layout
+upper_bounds : (journal next : Journal) (fields : List (List ℕ)) → HasBuilderBounds journal.layout → with_upper journal fields ≡ Some next → HasBuilderBounds next.layout
 unfolding with_upper
-upper_bounds journal next parts h e =
-    let a = bind_some (headed parts) _ next e in
+upper_bounds journal next fields h e =
+    let a = bind_some (split_first fields) _ next e in
     let page = bind_some (number_of journal.layout.pages a.0.0) _ next a.2 in
     let listed = bind_some (some_numbers_of page.0 a.0.1) _ next page.2 in
     let given_page : Journal = record journal { layout = given journal.layout page.0 listed.0 } in
     let t = tested (is_empty journal.entries && nat_le (length journal.layout.uppers) page.0) (ascends listed.0) given_page next listed.2 in
     let u = both (is_empty journal.entries) (nat_le (length journal.layout.uppers) page.0) t.0 in
-    subst (λ next. HasDraftBounds next.layout) t.2
+    subst (λ next. HasBuilderBounds next.layout) t.2
     (given_bounds journal.layout page.0 listed.0 h (at_least _ _ u.1) (number_lt _ _ _ page.1)
     (t.1, all_below-from_All page.0 listed.0 (some_numbers_lt page.0 a.0.1 listed.0 listed.1)))
 
-entry_keeps : (journal next : Journal) (entry : Option Entry) → HasDraftBounds journal.layout → option_map (λ entry. record journal { entries = journal.entries ++ entry ∷ [] }) entry ≡ Some next → HasDraftBounds next.layout
+entry_keeps : (journal next : Journal) (entry : Option Entry) → HasBuilderBounds journal.layout → option_map (λ entry. record journal { entries = journal.entries ++ entry ∷ [] }) entry ≡ Some next → HasBuilderBounds next.layout
 entry_keeps journal next None h e = cc
 entry_keeps journal next (Some entry) h e =
     let with_entry : Journal = record journal { entries = journal.entries ++ entry ∷ [] } in
     let is : with_entry ≡ next = cc in
-    subst (λ next. HasDraftBounds next.layout) is h
+    subst (λ next. HasBuilderBounds next.layout) is h
 
-entry_bounds : (journal next : Journal) (parts : List (List ℕ)) → HasDraftBounds journal.layout → with_entry journal parts ≡ Some next → HasDraftBounds next.layout
+entry_bounds : (journal next : Journal) (fields : List (List ℕ)) → HasBuilderBounds journal.layout → with_entry journal fields ≡ Some next → HasBuilderBounds next.layout
 unfolding with_entry
-entry_bounds journal next parts h e = entry_keeps journal next (entry_of parts) h e
+entry_bounds journal next fields h e = entry_keeps journal next (entry_of fields) h e
 
-begun_bounds : (layout : Option Layout) (next : Journal) → ((found : Layout) → layout ≡ Some found → HasDraftBounds found) → option_map (λ layout. record { layout = layout; entries = [] }) layout ≡ Some next → HasDraftBounds next.layout
-begun_bounds None next h e = cc
-begun_bounds (Some layout) next h e =
-    let begun : Journal = record { layout = layout; entries = [] } in
-    let is : begun ≡ next = cc in
-    subst (λ next. HasDraftBounds next.layout) is (h layout refl)
+layout_line_bounds : (layout : Option Layout) (next : Journal) → ((found : Layout) → layout ≡ Some found → HasBuilderBounds found) → option_map (λ layout. record { layout = layout; entries = [] }) layout ≡ Some next → HasBuilderBounds next.layout
+layout_line_bounds None next h e = cc
+layout_line_bounds (Some layout) next h e =
+    let from_layout_line : Journal = record { layout = layout; entries = [] } in
+    let is : from_layout_line ≡ next = cc in
+    subst (λ next. HasBuilderBounds next.layout) is (h layout refl)
 
-either_bounds : (journal next : Journal) (rest : Option (List (List ℕ))) (parts : List (List ℕ)) → HasDraftBounds journal.layout → option_map_or (with_upper journal) rest (with_entry journal parts) ≡ Some next → HasDraftBounds next.layout
-either_bounds journal next None parts h e = entry_bounds journal next parts h e
-either_bounds journal next (Some rest) parts h e = upper_bounds journal next rest h e
+either_bounds : (journal next : Journal) (rest : Option (List (List ℕ))) (fields : List (List ℕ)) → HasBuilderBounds journal.layout → option_map_or (with_upper journal) rest (with_entry journal fields) ≡ Some next → HasBuilderBounds next.layout
+either_bounds journal next None fields h e = entry_bounds journal next fields h e
+either_bounds journal next (Some rest) fields h e = upper_bounds journal next rest h e
 
--- a draft in bounds
-abbrev IsBoundedDraft : Journal → Type 0
-IsBoundedDraft journal = HasDraftBounds journal.layout
+-- a journal so far that is in bounds
+abbrev IsBoundedBuilder : Journal → Type 0
+IsBoundedBuilder journal = HasBuilderBounds journal.layout
 
-line_bounds : LinesKeep IsBoundedDraft
+line_bounds : LinesKeep IsBoundedBuilder
 unfolding with_line
-line_bounds None next parts h e = begun_bounds (layout_of parts) next (λ found is. layout_bounds parts found is) e
-line_bounds (Some journal) next parts h e = either_bounds journal next (after_word (codes "upper") parts) parts h e
+line_bounds None next fields h e = layout_line_bounds (layout_of fields) next (λ found is. layout_bounds fields found is) e
+line_bounds (Some journal) next fields h e = either_bounds journal next (after_word (codes "upper") fields) fields h e
 
-completed_bounds : (journal : Journal) → HasDraftBounds journal.layout → InBounds (completed journal).layout
-unfolding completed
-completed_bounds journal h =
+all_uppers_bounds : (journal : Journal) → HasBuilderBounds journal.layout → InBounds (with_all_uppers journal).layout
+unfolding with_all_uppers
+all_uppers_bounds journal h =
     record {
       counts = counts_with journal.layout (up_to journal.layout.uppers journal.layout.pages) h.counts;
       list_a_page = length-up_to journal.layout.uppers journal.layout.pages h.listed;
@@ -208,4 +209,4 @@ completed_bounds journal h =
 -- the layout that a text spells
 pub journal_bounds : (text : List ℕ) (journal : Journal) → journal_of text ≡ Ok journal → InBounds journal.layout
 journal_bounds text journal e =
-    journal_keeps IsBoundedDraft (λ journal. InBounds journal.layout) line_bounds completed_bounds text journal e
+    journal_keeps IsBoundedBuilder (λ journal. InBounds journal.layout) line_bounds all_uppers_bounds text journal e

@@ -5,24 +5,24 @@ use Rattle.std.specs.Prelude.{if◌then◌else◌}
 use Rattle.std.proofs.lemmas.List.Elements.{All-head, All-tail}
 use Rattle.std.specs.Option.{is_some}
 use Rattle.std.proofs.lemmas.List.Splits.{length-slice_split, slice_split_at, slice_split_none}
-use Rattle.journal.specs.Grammar.{is_empty, lines_of, parts_of}
-use Rattle.journal.specs.Left.{parts_left}
+use Rattle.journal.specs.Grammar.{is_empty, lines_of, fields_of}
+use Rattle.journal.specs.RestOfLine.{fields_left}
 
--- the first part of a line ends at its first space
-pub parts_of_cut : (line part : List ℕ) (rest : Option (Bor (List ℕ))) → All (λ byte. (byte == 32) ≡ false) part → MatchOption rest (line ≡ part) (λ after. line ≡ part ++ 32 ∷ after.now) → parts_of line ≡ part ∷ parts_left rest
-parts_of_cut line part None apart whole = ap parts_of whole ∙ slice_split_none (λ byte. byte == 32) part apart
-parts_of_cut line part (Some after) apart whole = ap parts_of whole ∙ slice_split_at (λ byte. byte == 32) part 32 after.now apart refl
+-- the first field of a line ends at its first space
+pub fields_of_cut : (line field : List ℕ) (rest : Option (Bor (List ℕ))) → All (λ byte. (byte == 32) ≡ false) field → MatchOption rest (line ≡ field) (λ after. line ≡ field ++ 32 ∷ after.now) → fields_of line ≡ field ∷ fields_left rest
+fields_of_cut line field None apart whole = ap fields_of whole ∙ slice_split_none (λ byte. byte == 32) field apart
+fields_of_cut line field (Some after) apart whole = ap fields_of whole ∙ slice_split_at (λ byte. byte == 32) field 32 after.now apart refl
 
-nonempty : (parts : List (List ℕ)) (m : ℕ) → length parts ≡ m + 1 → false ≡ is_empty parts
+nonempty : (fields : List (List ℕ)) (m : ℕ) → length fields ≡ m + 1 → false ≡ is_empty fields
 nonempty [] m e = absurd (omega (arith, e))
-nonempty (part ∷ rest) m e = refl
+nonempty (field ∷ rest) m e = refl
 
--- a line has a part at least; behind its end there is none
-pub is_done-parts_left : (rest : Option (Bor (List ℕ))) (done : Bool) → is_some rest ≡ not done → done ≡ is_empty (parts_left rest)
-is_done-parts_left None true e = refl
-is_done-parts_left None false e = cc
-is_done-parts_left (Some line) true e = cc
-is_done-parts_left (Some line) false e = nonempty _ _ (length-slice_split (λ byte. byte == 32) line.now)
+-- a line has a field at least; behind its end there is none
+pub is_empty-fields_left : (rest : Option (Bor (List ℕ))) (done : Bool) → is_some rest ≡ not done → done ≡ is_empty (fields_left rest)
+is_empty-fields_left None true e = refl
+is_empty-fields_left None false e = cc
+is_empty-fields_left (Some line) true e = cc
+is_empty-fields_left (Some line) false e = nonempty _ _ (length-slice_split (λ byte. byte == 32) line.now)
 
 -- a byte that is no LF
 abbrev pub no_lf : ℕ → Type 0
@@ -53,9 +53,9 @@ cut_says text line rest = MatchOption rest (text ≡ line) (λ after. text ≡ l
 
 pub lines_cut_some : (text line : List ℕ) (rest : Option (Bor (List ℕ))) (after : Bor (List ℕ)) → All no_lf line → cut_says text line rest → rest ≡ Some after → lines_of text ≡ line ∷ lines_of after.now
 lines_cut_some text line rest after apart whole is =
-    let said : cut_says text line (Some after) = subst (cut_says text line) is whole in ap lines_of said ∙ lines_of_line line after.now apart
+    let so_far : cut_says text line (Some after) = subst (cut_says text line) is whole in ap lines_of so_far ∙ lines_of_line line after.now apart
 
 pub lines_cut_none : (text line : List ℕ) (rest : Option (Bor (List ℕ))) → All no_lf line → cut_says text line rest → rest ≡ None → false ≡ (length text == 0) → lines_of text ≡ line ∷ []
 lines_cut_none text line rest apart whole is some =
-    let said : cut_says text line None = subst (cut_says text line) is whole in
-    ap lines_of said ∙ lines_of_last line (some ∙ ap (λ bytes. length bytes == 0) said) apart
+    let so_far : cut_says text line None = subst (cut_says text line) is whole in
+    ap lines_of so_far ∙ lines_of_last line (some ∙ ap (λ bytes. length bytes == 0) so_far) apart

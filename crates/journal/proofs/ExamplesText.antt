@@ -4,8 +4,12 @@ use Rattle.std.specs.Fmt.{digits}
 use Rattle.std.specs.List.{join_with_byte}
 use Rattle.hex.specs.Hex.{decode_pairs, encode_with}
 use Rattle.geom_core.specs.declared.digests.Digest32.{Digest32}
-use Rattle.journal.specs.Grammar.{journal_of, number_of, digest_of, lone_of, listed_of, needed_of, settle_of, take_of, install_of, fail_of, spoilt_digest_of, spoilt_grammar_of, spoilt_short_of, spoilt_of, spoil_of, plain_of, what_of, entry_of, layout_of, with_upper, with_entry, with_line, completed, after_line}
+use Rattle.journal.specs.Grammar.{journal_of, number_of, digest_of, single_number_of, frame_and_pages_of, pages_until_missing_of, settle_of, take_of, install_of, fail_of, spoilt_digest_of, spoilt_grammar_of, spoilt_short_of, spoilt_of, spoil_of, event_without_list_of, event_of, entry_of, layout_of, with_upper, with_entry, with_line, with_all_uppers}
+use Rattle.journal.specs.FieldNumber.{number_in}
+use Rattle.journal.specs.LineResult.{line_result}
 use Rattle.journal.specs.Spelling.{journal_bytes}
+use Rattle.journal.specs.declared.numbers.Field.TheVariants.{Number, Dash}
+use Rattle.journal.specs.declared.reading.LineResult.TheVariants.{Comment, Accepted, Bad}
 use Rattle.journal.specs.declared.entries.Entry.{Entry}
 use Rattle.journal.specs.declared.entries.Spoilt.TheVariants.{Digest, Grammar, Short}
 use Rattle.journal.specs.declared.entries.What.TheVariants.{Pin, Settle, Ask, Narrow, Unpin, Take, Install, Fail, Spoil, Starve, Full, Stop}
@@ -14,7 +18,7 @@ use Rattle.journal.specs.declared.layouts.Layout.{Layout}
 
 -- what the reading of a literal unfolds
 unfoldable reading : ℕ
-unfolding number_of digest_of lone_of listed_of needed_of settle_of take_of install_of fail_of spoilt_digest_of spoilt_grammar_of spoilt_short_of spoilt_of spoil_of plain_of what_of entry_of layout_of with_upper with_entry with_line completed after_line decode_pairs digits encode_with
+unfolding number_of digest_of single_number_of frame_and_pages_of pages_until_missing_of settle_of take_of install_of fail_of spoilt_digest_of spoilt_grammar_of spoilt_short_of spoilt_of spoil_of event_without_list_of event_of entry_of layout_of with_upper with_entry with_line with_all_uppers decode_pairs digits encode_with
 reading = 0
 
 -- the lines, with an LF between each two and none at the end
@@ -124,7 +128,7 @@ comment_alone = refl
 abbrev third : List ℕ → Result Journal ℕ
 third line = journal_of (text_of (codes "layout 3 1 3" ∷ codes "#" ∷ line ∷ []))
 
--- lines outside the grammar: a leading zero, a part too few, a sign, a number past its type
+-- lines outside the grammar: a leading zero, a field too few, a sign, a number past its type
 leading_zero : third (codes "0 pin 01") ≡ Err 3
 unfolding reading
 leading_zero = refl
@@ -201,3 +205,23 @@ upper_case = refl
 short_digest : third (codes "0 install 1 " ++ replicate 63 48) ≡ Err 3
 unfolding reading
 short_digest = refl
+
+-- one line after none: a comment, the layout, and a line that comes too early
+line_comment : line_result None (codes "# layout 1 1 1") ≡ Comment
+unfolding reading line_result
+line_comment = refl
+
+line_accepted : line_result None (codes "layout 1 1 1") ≡ Accepted (record { layout = record least { uppers = [] }; entries = [] })
+unfolding reading line_result
+line_accepted = refl
+
+line_early : line_result None (codes "0 stop") ≡ Bad
+unfolding reading line_result
+line_early = refl
+
+-- the number of a field, and that of `-`
+number_in_field : (n : ℕ) → number_in (Number n) ≡ Some n
+number_in_field n = refl
+
+number_in_dash : number_in Dash ≡ None
+number_in_dash = refl

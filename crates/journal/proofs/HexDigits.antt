@@ -1,4 +1,4 @@
--- What a part spells as a digest, from what `hex` decodes of it.
+-- What a field spells as a digest, from what `hex` decodes of it.
 use Rattle.std.proofs.Common.{◌≡◌, ℕ, List, Bool, true, false, Option, None, Some, Result, Ok, Err, refl, sym, ap, ◌∙◌}
 use Rattle.std.specs.Prelude.{if◌then◌else◌, MatchResult}
 use Rattle.std.specs.List.{list_all}
@@ -21,16 +21,16 @@ digest_none (Ok bytes) r out ok h = let yes = ap is_ok h.0 in cc
 digest_none (Err e) r out ok h = refl
 
 -- the digits are those of a digest, and `hex` decodes them
-pub digest_read : (part : List ℕ) (r : Result Unit FromHexError) (out : List ℕ) → list_all is_digest_digit part ≡ true → is_ok r ≡ true → MatchResult (decode_sized part 32) (λ bytes. (r ≡ Ok tt) × (out ≡ bytes)) (λ e. r ≡ Err e) → Some (record { bytes = out }) ≡ digest_of part
+pub digest_read : (field : List ℕ) (r : Result Unit FromHexError) (out : List ℕ) → list_all is_digest_digit field ≡ true → is_ok r ≡ true → MatchResult (decode_sized field 32) (λ bytes. (r ≡ Ok tt) × (out ≡ bytes)) (λ e. r ≡ Err e) → Some (record { bytes = out }) ≡ digest_of field
 unfolding digest_of
-digest_read part r out digits ok h = digest_some _ r out ok h ∙ sym (ap (λ b. digest_from b (decode_sized part 32)) digits)
+digest_read field r out digits ok h = digest_some _ r out ok h ∙ sym (ap (λ b. digest_from b (decode_sized field 32)) digits)
 
 -- `hex` decodes them not
-pub digest_unread : (part : List ℕ) (r : Result Unit FromHexError) (out : List ℕ) → list_all is_digest_digit part ≡ true → is_ok r ≡ false → MatchResult (decode_sized part 32) (λ bytes. (r ≡ Ok tt) × (out ≡ bytes)) (λ e. r ≡ Err e) → None ≡ digest_of part
+pub digest_unread : (field : List ℕ) (r : Result Unit FromHexError) (out : List ℕ) → list_all is_digest_digit field ≡ true → is_ok r ≡ false → MatchResult (decode_sized field 32) (λ bytes. (r ≡ Ok tt) × (out ≡ bytes)) (λ e. r ≡ Err e) → None ≡ digest_of field
 unfolding digest_of
-digest_unread part r out digits ok h = digest_none _ r out ok h ∙ sym (ap (λ b. digest_from b (decode_sized part 32)) digits)
+digest_unread field r out digits ok h = digest_none _ r out ok h ∙ sym (ap (λ b. digest_from b (decode_sized field 32)) digits)
 
 -- a byte is no digit of a digest
-pub digest_not : (part : List ℕ) → list_all is_digest_digit part ≡ false → None ≡ digest_of part
+pub digest_not : (field : List ℕ) → list_all is_digest_digit field ≡ false → None ≡ digest_of field
 unfolding digest_of
-digest_not part digits = sym (ap (λ b. digest_from b (decode_sized part 32)) digits)
+digest_not field digits = sym (ap (λ b. digest_from b (decode_sized field 32)) digits)

@@ -2,7 +2,7 @@
 use Rattle.std.proofs.Common.{◌≡◌, ◌+◌, ℕ, List, [], ◌∷◌, Bool, true, false, Option, None, Some, Result, Ok, Err, refl, subst}
 use Rattle.std.specs.Prelude.{if◌then◌else◌}
 use Rattle.std.specs.Option.{option_map, option_map_or}
-use Rattle.journal.specs.Grammar.{after_line, at_end, completed, is_comment, journal_of, lines_of, parts_of, read_from, with_line}
+use Rattle.journal.specs.Grammar.{at_end, with_all_uppers, is_comment, journal_of, lines_of, fields_of, read_from, with_line}
 use Rattle.journal.specs.declared.journals.Journal.{Journal}
 
 -- what the lines so far say, where they say something
@@ -12,38 +12,31 @@ Says P (Some journal) = P journal
 
 -- a further line keeps P
 abbrev pub LinesKeep : (Journal → Type 0) → Type 0
-LinesKeep P = (said : Option Journal) (next : Journal) (parts : List (List ℕ)) → Says P said → with_line said parts ≡ Some next → P next
+LinesKeep P = (so_far : Option Journal) (next : Journal) (fields : List (List ℕ)) → Says P so_far → with_line so_far fields ≡ Some next → P next
 
-said_keeps : (P : Journal → Type 0) (journal next : Option Journal) → ((found : Journal) → journal ≡ Some found → P found) → option_map Some journal ≡ Some next → Says P next
-said_keeps P None next h e = cc
-said_keeps P (Some journal) next h e =
-    let is : Some journal ≡ next = cc in subst (Says P) is (h journal refl)
-
-told_keeps : (P : Journal → Type 0) → LinesKeep P → (comment : Bool) (said next : Option Journal) (parts : List (List ℕ)) → Says P said → (if comment then Some said else option_map Some (with_line said parts)) ≡ Some next → Says P next
-told_keeps P keep true said next parts h e =
-    let is : said ≡ next = cc in subst (Says P) is h
-told_keeps P keep false said next parts h e = said_keeps P (with_line said parts) next (λ found is. keep said found parts h is) e
-
-after_keeps : (P : Journal → Type 0) → LinesKeep P → (said next : Option Journal) (text : List ℕ) → Says P said → after_line said text ≡ Some next → Says P next
-unfolding after_line
-after_keeps P keep said next text h e = told_keeps P keep (is_comment text) said next (parts_of text) h e
-
-end_keeps : (P Q : Journal → Type 0) → ((journal : Journal) → P journal → Q (completed journal)) → (said : Option Journal) (line : ℕ) (journal : Journal) → Says P said → at_end said line ≡ Ok journal → Q journal
+end_keeps : (P Q : Journal → Type 0) → ((journal : Journal) → P journal → Q (with_all_uppers journal)) → (so_far : Option Journal) (line : ℕ) (journal : Journal) → Says P so_far → at_end so_far line ≡ Ok journal → Q journal
 end_keeps P Q complete None line journal h e = cc
-end_keeps P Q complete (Some said) line journal h e =
-    let is : completed said ≡ journal = cc in subst Q is (complete said h)
+end_keeps P Q complete (Some so_far) line journal h e =
+    let is : with_all_uppers so_far ≡ journal = cc in subst Q is (complete so_far h)
 
-next_keeps : (P Q : Journal → Type 0) (next : Option (Option Journal)) (read : Option Journal → Result Journal ℕ) (line : ℕ) (journal : Journal) → ((found : Option Journal) → next ≡ Some found → Says P found) → ((found : Option Journal) → Says P found → read found ≡ Ok journal → Q journal) → option_map_or read next (Err line) ≡ Ok journal → Q journal
+-- a line that is accepted, and then the lines after it
+next_keeps : (P Q : Journal → Type 0) (next : Option Journal) (read : Option Journal → Result Journal ℕ) (line : ℕ) (journal : Journal) → ((found : Journal) → next ≡ Some found → P found) → ((found : Journal) → P found → read (Some found) ≡ Ok journal → Q journal) → option_map_or (λ found. read (Some found)) next (Err line) ≡ Ok journal → Q journal
 next_keeps P Q None read line journal h after e = cc
 next_keeps P Q (Some found) read line journal h after e = after found (h found refl) e
 
-read_keeps : (P Q : Journal → Type 0) → LinesKeep P → ((journal : Journal) → P journal → Q (completed journal)) → (lines : List (List ℕ)) (said : Option Journal) (line : ℕ) (journal : Journal) → Says P said → read_from said line lines ≡ Ok journal → Q journal
-read_keeps P Q keep complete [] said line journal h e = end_keeps P Q complete said line journal h e
-read_keeps P Q keep complete (text ∷ rest) said line journal h e =
-    next_keeps P Q (after_line said text) (λ now_said. read_from now_said (line + 1) rest) line journal
-    (λ found is. after_keeps P keep said found text h is)
+-- a line, and then the lines after it
+line_keeps : (P Q : Journal → Type 0) (comment : Bool) (so_far next : Option Journal) (read : Option Journal → Result Journal ℕ) (line : ℕ) (journal : Journal) → Says P so_far → ((found : Journal) → next ≡ Some found → P found) → ((found : Option Journal) → Says P found → read found ≡ Ok journal → Q journal) → (if comment then read so_far else option_map_or (λ found. read (Some found)) next (Err line)) ≡ Ok journal → Q journal
+line_keeps P Q true so_far next read line journal h keep after e = after so_far h e
+line_keeps P Q false so_far next read line journal h keep after e =
+    next_keeps P Q next read line journal keep (λ found kept is. after (Some found) kept is) e
+
+read_keeps : (P Q : Journal → Type 0) → LinesKeep P → ((journal : Journal) → P journal → Q (with_all_uppers journal)) → (lines : List (List ℕ)) (so_far : Option Journal) (line : ℕ) (journal : Journal) → Says P so_far → read_from so_far line lines ≡ Ok journal → Q journal
+read_keeps P Q keep complete [] so_far line journal h e = end_keeps P Q complete so_far line journal h e
+read_keeps P Q keep complete (text ∷ rest) so_far line journal h e =
+    line_keeps P Q (is_comment text) so_far (with_line so_far (fields_of text)) (λ found. read_from found (line + 1) rest) line journal h
+    (λ found is. keep so_far found (fields_of text) h is)
     (λ found kept is. read_keeps P Q keep complete rest found (line + 1) journal kept is) e
 
--- P of each draft gives Q of the journal
-pub journal_keeps : (P Q : Journal → Type 0) → LinesKeep P → ((journal : Journal) → P journal → Q (completed journal)) → (text : List ℕ) (journal : Journal) → journal_of text ≡ Ok journal → Q journal
+-- P of each journal so far gives Q of the journal
+pub journal_keeps : (P Q : Journal → Type 0) → LinesKeep P → ((journal : Journal) → P journal → Q (with_all_uppers journal)) → (text : List ℕ) (journal : Journal) → journal_of text ≡ Ok journal → Q journal
 journal_keeps P Q keep complete text journal e = read_keeps P Q keep complete (lines_of text) None 1 journal tt e

@@ -1,4 +1,4 @@
--- What a part spells as a number, below one limit and below another.
+-- What a field spells as a number, below one limit and below another.
 use Rattle.std.proofs.Common.{◌≡◌, ◌&&◌, ℕ, ◌<◌, ◌≤◌, ◌^◌, List, Bool, true, false, None, Some, Result, Ok, Err, length, arith, rules, inl, inr, refl, sym, ap, ◌∙◌}
 use Rattle.std.proofs.lemmas.Bool.{cases_lt}
 use Rattle.std.specs.Prelude.{if◌then◌else◌}
@@ -24,20 +24,20 @@ narrow_past : (b : Bool) (v big small n : ℕ) → Some n ≡ (if b then below b
 narrow_past true v big small n e le = grind arith
 narrow_past false v big small n e le = refl
 
--- a part that spells no number below a limit spells none below a lesser one
-pub number_none : (big small : ℕ) (part : List ℕ) → small ≤ big → None ≡ number_of big part → None ≡ number_of small part
+-- a field that spells no number below a limit spells none below a lesser one
+pub number_none : (big small : ℕ) (field : List ℕ) → small ≤ big → None ≡ number_of big field → None ≡ number_of small field
 unfolding number_of
-number_none big small part le e = narrow_none _ _ big small le e
+number_none big small field le e = narrow_none _ _ big small le e
 
 -- a number that is below a lesser limit too
-pub number_some : (big small n : ℕ) (part : List ℕ) → small ≤ big → Some n ≡ number_of big part → n < small → Some n ≡ number_of small part
+pub number_some : (big small n : ℕ) (field : List ℕ) → small ≤ big → Some n ≡ number_of big field → n < small → Some n ≡ number_of small field
 unfolding number_of
-number_some big small n part le e lt = narrow_some _ _ big small n le e lt
+number_some big small n field le e lt = narrow_some _ _ big small n le e lt
 
 -- a number that isn't
-pub number_past : (big small n : ℕ) (part : List ℕ) → Some n ≡ number_of big part → small ≤ n → None ≡ number_of small part
+pub number_past : (big small n : ℕ) (field : List ℕ) → Some n ≡ number_of big field → small ≤ n → None ≡ number_of small field
 unfolding number_of
-number_past big small n part e le = narrow_past _ _ big small n e le
+number_past big small n field e le = narrow_past _ _ big small n e le
 
 -- a numeral's digits, and that it has one
 numeral_parts : (a b c : Bool) → (a && b && c) ≡ true → (a ≡ true) × (b ≡ true)
@@ -49,27 +49,27 @@ pub digits_are : IsNumeralModel (λ ds. list_all is_ascii_digit ds ≡ true) (di
 digits_are = numerals_by_value _ (search rules)
 
 -- a numeral is text
-pub numeral_is_text : (part : List ℕ) → is_numeral part ≡ true → IsUtf8 part
-numeral_is_text part e =
-    let digits = (numeral_parts _ _ _ e).0 in IsUtf8-from_ascii part (IsAscii-from_digits part (digits_are.to part digits))
+pub numeral_is_text : (field : List ℕ) → is_numeral field ≡ true → IsUtf8 field
+numeral_is_text field e =
+    let digits = (numeral_parts _ _ _ e).0 in IsUtf8-from_ascii field (IsAscii-from_digits field (digits_are.to field digits))
 
 -- what isn't a numeral spells no number
-pub number_not : (limit : ℕ) (part : List ℕ) → is_numeral part ≡ false → None ≡ number_of limit part
+pub number_not : (limit : ℕ) (field : List ℕ) → is_numeral field ≡ false → None ≡ number_of limit field
 unfolding number_of
-number_not limit part e = sym (ap (λ b. if b then below limit (digits_value 10 part) else None) e)
+number_not limit field e = sym (ap (λ b. if b then below limit (digits_value 10 field) else None) e)
 
-pub number_is : (limit : ℕ) (part : List ℕ) → is_numeral part ≡ true → number_of limit part ≡ below limit (digits_value 10 part)
+pub number_is : (limit : ℕ) (field : List ℕ) → is_numeral field ≡ true → number_of limit field ≡ below limit (digits_value 10 field)
 unfolding number_of
-number_is limit part e = ap (λ b. if b then below limit (digits_value 10 part) else None) e
+number_is limit field e = ap (λ b. if b then below limit (digits_value 10 field) else None) e
 
 parsed_below : {E : Type 0} (r : Result ℕ E) (v l limit : ℕ) → 0 < l → OkIff r ((0 < l) × (v < limit)) v → result_ok r ≡ below limit v
 parsed_below (Ok x) v l limit some h = let lt = h.0.1 in let is = h.1 in grind arith
 parsed_below (Err e) v l limit some h = let out : v < limit → ⊥ = λ lt. h (some, lt) in elim (cases_lt v limit) [ inl lt ↦ absurd (out lt) | inr le ↦ grind arith ]
 
 -- what `parse` reads of a numeral
-pub number_parsed : {E : Type 0} (part text : List ℕ) (r : Result ℕ E) → text ≡ part → is_numeral part ≡ true → ParsesUnsigned 64 10 text r → result_ok r ≡ number_of (2 ^ 64) part
-number_parsed part text r same e h =
+pub number_parsed : {E : Type 0} (field text : List ℕ) (r : Result ℕ E) → text ≡ field → is_numeral field ≡ true → ParsesUnsigned 64 10 text r → result_ok r ≡ number_of (2 ^ 64) field
+number_parsed field text r same e h =
     let has = numeral_parts _ _ _ e in
-    let some : 0 < length part = grind (arith, has) in
+    let some : 0 < length field = grind (arith, has) in
     let parsed = rw same at h in
-    parsed_below r _ _ _ some (parse_digits digits_are 64 part r parsed has.0) ∙ sym (number_is (2 ^ 64) part e)
+    parsed_below r _ _ _ some (parse_digits digits_are 64 field r parsed has.0) ∙ sym (number_is (2 ^ 64) field e)

@@ -12,10 +12,11 @@ use Rattle.journal.proofs.Padding.{up_to_more}
 use Rattle.journal.proofs.PrintedEntries.{entry_no_upper, entry_printed, numbers_decimal}
 use Rattle.journal.proofs.PrintedLines.{entry_plain, layout_plain, upper_plain}
 use Rattle.journal.proofs.PrintedNumbers.{number_decimal}
-use Rattle.journal.proofs.PrintedParts.{IsPlainLine, lines_of_printed, no_comment_join, parts_of_join}
+use Rattle.journal.proofs.PrintedFields.{IsPlainLine, lines_of_printed, no_comment_join, fields_of_join}
+use Rattle.geom_core.specs.declared.limits.TheConstants.{MAX_PAGES}
 use Rattle.journal.specs.Layout.{InBounds, UppersFit, ascends}
-use Rattle.journal.specs.Grammar.{after_line, completed, journal_of, layout_of, parts_of, read_from, up_to, with_entry, with_line, with_upper}
-use Rattle.journal.specs.Spelling.{entry_parts, journal_bytes, journal_lines, layout_parts, upper_lines}
+use Rattle.journal.specs.Grammar.{with_all_uppers, journal_of, layout_of, fields_of, read_from, up_to, with_entry, with_line, with_upper}
+use Rattle.journal.specs.Spelling.{entry_fields, journal_bytes, journal_lines, layout_fields, upper_lines}
 use Rattle.journal.specs.Typed.{Is32, IsTyped}
 use Rattle.journal.specs.declared.entries.Entry.{Entry}
 use Rattle.journal.specs.declared.journals.Journal.{Journal}
@@ -25,42 +26,42 @@ use Rattle.journal.specs.declared.layouts.Layout.{Layout}
 abbrev joined : List (List ℕ) → List ℕ
 joined line = join_with_byte 32 line
 
-after_printed : (said : Option Journal) (line : List (List ℕ)) → IsPlainLine line → after_line said (joined line) ≡ option_map Some (with_line said line)
-unfolding after_line
-after_printed said [] plain = absurd plain
-after_printed said (part ∷ rest) plain =
-    ap (λ comment. if comment then Some said else option_map Some (with_line said (parts_of (joined (part ∷ rest))))) (no_comment_join part rest plain)
-    ∙ ap (λ parts. option_map Some (with_line said parts)) (parts_of_join part rest plain)
+read_printed : (so_far : Option Journal) (n : ℕ) (line : List (List ℕ)) (lines : List (List ℕ)) → IsPlainLine line → read_from so_far n (joined line ∷ lines) ≡ option_map_or (λ journal. read_from (Some journal) (n + 1) lines) (with_line so_far line) (Err n)
+read_printed so_far n [] lines plain = absurd plain
+read_printed so_far n (field ∷ rest) lines plain =
+    ap (λ comment. if comment then read_from so_far (n + 1) lines else option_map_or (λ journal. read_from (Some journal) (n + 1) lines) (with_line so_far (fields_of (joined (field ∷ rest)))) (Err n)) (no_comment_join field rest plain)
+    ∙ ap (λ fields. option_map_or (λ journal. read_from (Some journal) (n + 1) lines) (with_line so_far fields) (Err n)) (fields_of_join field rest plain)
 
 -- what a printed line says, and then the others
-read_step : (said : Option Journal) (next : Journal) (n : ℕ) (line : List (List ℕ)) (lines : List (List ℕ)) → IsPlainLine line → with_line said line ≡ Some next → read_from said n (joined line ∷ lines) ≡ read_from (Some next) (n + 1) lines
-read_step said next n line lines plain e =
-    ap (λ after. option_map_or (λ now_said. read_from now_said (n + 1) lines) after (Err n)) (after_printed said line plain ∙ ap (option_map Some) e)
+read_step : (so_far : Option Journal) (next : Journal) (n : ℕ) (line : List (List ℕ)) (lines : List (List ℕ)) → IsPlainLine line → with_line so_far line ≡ Some next → read_from so_far n (joined line ∷ lines) ≡ read_from (Some next) (n + 1) lines
+read_step so_far next n line lines plain e =
+    read_printed so_far n line lines plain
+    ∙ ap (λ after. option_map_or (λ journal. read_from (Some journal) (n + 1) lines) after (Err n)) e
 
-abbrev drafted : Layout → List Entry → Journal
-drafted layout entries = record { layout = layout; entries = entries }
+abbrev journal_with : Layout → List Entry → Journal
+journal_with layout entries = record { layout = layout; entries = entries }
 
 -- the lines of entries
-entry_line : (layout : Layout) (so_far : List Entry) (entry : Entry) → IsTyped entry → with_line (Some (drafted layout so_far)) (entry_parts entry) ≡ Some (drafted layout (so_far ++ entry ∷ []))
+entry_line : (layout : Layout) (so_far : List Entry) (entry : Entry) → IsTyped entry → with_line (Some (journal_with layout so_far)) (entry_fields entry) ≡ Some (journal_with layout (so_far ++ entry ∷ []))
 unfolding with_line with_entry
 entry_line layout so_far entry h =
-    ap (λ rest. option_map_or (with_upper (drafted layout so_far)) rest (with_entry (drafted layout so_far) (entry_parts entry))) (entry_no_upper entry h)
-    ∙ ap (λ read. option_map (λ entry. drafted layout (so_far ++ entry ∷ [])) read) (entry_printed entry h)
+    ap (λ rest. option_map_or (with_upper (journal_with layout so_far)) rest (with_entry (journal_with layout so_far) (entry_fields entry))) (entry_no_upper entry h)
+    ∙ ap (λ read. option_map (λ entry. journal_with layout (so_far ++ entry ∷ [])) read) (entry_printed entry h)
 
-entries_read : (entries so_far : List Entry) (layout : Layout) (n : ℕ) → All IsTyped entries → read_from (Some (drafted layout so_far)) n (map joined (map entry_parts entries)) ≡ Ok (completed (drafted layout (so_far ++ entries)))
-entries_read [] so_far layout n h = ap (λ entries. Ok (completed (drafted layout entries))) (sym (append-nil so_far))
+entries_read : (entries so_far : List Entry) (layout : Layout) (n : ℕ) → All IsTyped entries → read_from (Some (journal_with layout so_far)) n (map joined (map entry_fields entries)) ≡ Ok (with_all_uppers (journal_with layout (so_far ++ entries)))
+entries_read [] so_far layout n h = ap (λ entries. Ok (with_all_uppers (journal_with layout entries))) (sym (append-nil so_far))
 entries_read (entry ∷ rest) so_far layout n h =
     let typed = All-head IsTyped entry rest h in
-    read_step (Some (drafted layout so_far)) (drafted layout (so_far ++ entry ∷ [])) n (entry_parts entry) (map joined (map entry_parts rest))
+    read_step (Some (journal_with layout so_far)) (journal_with layout (so_far ++ entry ∷ [])) n (entry_fields entry) (map joined (map entry_fields rest))
     (entry_plain entry typed) (entry_line layout so_far entry typed)
     ∙ entries_read rest (so_far ++ entry ∷ []) layout (n + 1) (All-tail IsTyped entry rest h)
-    ∙ ap (λ entries. Ok (completed (drafted layout entries))) (append_assoc so_far (entry ∷ []) rest)
+    ∙ ap (λ entries. Ok (with_all_uppers (journal_with layout entries))) (append_assoc so_far (entry ∷ []) rest)
 
 -- the lines of uppers
 abbrev with_lists : Layout → List (List ℕ) → Layout
 with_lists layout uppers = record layout { uppers = uppers }
 
-upper_line : (layout : Layout) (page upper : ℕ) (uppers : List ℕ) → length layout.uppers ≤ page → page < layout.pages → layout.pages ≤ 2 ^ 23 → UppersFit page (upper ∷ uppers) → with_line (Some (drafted layout [])) (codes "upper" ∷ decimal page ∷ decimal upper ∷ map decimal uppers) ≡ Some (drafted (with_lists layout (up_to layout.uppers page ++ (upper ∷ uppers) ∷ [])) [])
+upper_line : (layout : Layout) (page upper : ℕ) (uppers : List ℕ) → length layout.uppers ≤ page → page < layout.pages → layout.pages ≤ MAX_PAGES → UppersFit page (upper ∷ uppers) → with_line (Some (journal_with layout [])) (codes "upper" ∷ decimal page ∷ decimal upper ∷ map decimal uppers) ≡ Some (journal_with (with_lists layout (up_to layout.uppers page ++ (upper ∷ uppers) ∷ [])) [])
 unfolding with_line with_upper
 upper_line layout page upper uppers short lt fits are =
     let number = number_decimal layout.pages page lt (omega (arith, lt, fits)) in
@@ -101,16 +102,16 @@ no_list_more uppers more page le =
     ap (λ lists. lists ++ more) (sym (up_to_more uppers page le)) ∙ append_assoc (up_to uppers page) ([] ∷ []) more
 
 abbrev answer : Layout → List Entry → List (List ℕ) → Result Journal ℕ
-answer layout entries uppers = Ok (drafted (with_lists layout uppers) entries)
+answer layout entries uppers = Ok (journal_with (with_lists layout uppers) entries)
 
-completed_is : (layout : Layout) (entries : List Entry) (page : ℕ) → page ≡ layout.pages → Ok (completed (drafted layout entries)) ≡ answer layout entries (up_to layout.uppers page ++ [])
-unfolding completed
-completed_is layout entries page e =
+all_uppers_is : (layout : Layout) (entries : List Entry) (page : ℕ) → page ≡ layout.pages → Ok (with_all_uppers (journal_with layout entries)) ≡ answer layout entries (up_to layout.uppers page ++ [])
+unfolding with_all_uppers
+all_uppers_is layout entries page e =
     ap (answer layout entries) (ap (up_to layout.uppers) (sym e) ∙ sym (append-nil (up_to layout.uppers page)))
 
-uppers_read : (rest : List (List ℕ)) (layout : Layout) (page n : ℕ) (entries : List Entry) → length layout.uppers ≤ page → page + length rest ≡ layout.pages → layout.pages ≤ 2 ^ 23 → ListsFrom page rest → All IsTyped entries → read_from (Some (drafted layout [])) n (map joined (upper_lines page rest ++ map entry_parts entries)) ≡ answer layout entries (up_to layout.uppers page ++ rest)
+uppers_read : (rest : List (List ℕ)) (layout : Layout) (page n : ℕ) (entries : List Entry) → length layout.uppers ≤ page → page + length rest ≡ layout.pages → layout.pages ≤ MAX_PAGES → ListsFrom page rest → All IsTyped entries → read_from (Some (journal_with layout [])) n (map joined (upper_lines page rest ++ map entry_fields entries)) ≡ answer layout entries (up_to layout.uppers page ++ rest)
 uppers_read [] layout page n entries short all fits lists h =
-    entries_read entries [] layout n h ∙ completed_is layout entries page (omega (arith, all))
+    entries_read entries [] layout n h ∙ all_uppers_is layout entries page (omega (arith, all))
 uppers_read ([] ∷ more) layout page n entries short all fits lists h =
     uppers_read more layout (page + 1) n entries (omega (arith, short)) (omega (arith, all)) fits lists.1 h
     ∙ ap (answer layout entries) (no_list_more layout.uppers more page short)
@@ -119,26 +120,26 @@ uppers_read ((upper ∷ uppers) ∷ more) layout page n entries short all fits l
     let lists_now = up_to layout.uppers page ++ (upper ∷ uppers) ∷ [] in
     let are_32 : All Is32 (upper ∷ uppers) = All-weaker (λ u. u < page) Is32 (λ u below. omega (arith, below, lt, fits)) (upper ∷ uppers) (All-from_all_below page (upper ∷ uppers) lists.0.1) in
     let long : length lists_now ≤ page + 1 = omega (arith, length-append (up_to layout.uppers page) ((upper ∷ uppers) ∷ []), length-up_to layout.uppers page short) in
-    read_step (Some (drafted layout [])) (drafted (with_lists layout lists_now) []) n
-    (codes "upper" ∷ decimal page ∷ decimal upper ∷ map decimal uppers) (map joined (upper_lines (page + 1) more ++ map entry_parts entries))
+    read_step (Some (journal_with layout [])) (journal_with (with_lists layout lists_now) []) n
+    (codes "upper" ∷ decimal page ∷ decimal upper ∷ map decimal uppers) (map joined (upper_lines (page + 1) more ++ map entry_fields entries))
     (upper_plain page upper uppers (omega (arith, lt, fits)) are_32) (upper_line layout page upper uppers short lt fits lists.0)
     ∙ uppers_read more (with_lists layout lists_now) (page + 1) (n + 1) entries long (omega (arith, all)) fits lists.1 h
     ∙ ap (answer layout entries) (one_list_more layout.uppers more page (upper ∷ uppers) short)
 
 -- the line of the layout
-layout_line : (layout : Layout) → InBounds layout → with_line None (layout_parts layout) ≡ Some (drafted (with_lists layout []) [])
+layout_line : (layout : Layout) → InBounds layout → with_line None (layout_fields layout) ≡ Some (journal_with (with_lists layout []) [])
 unfolding with_line layout_of
 layout_line layout h =
-    let p = h.counts.few_pages in let r = h.counts.roots_are_pages in let s = h.counts.few_slots in
-    let pages = number_decimal (2 ^ 23 + 1) layout.pages (omega (arith, p)) (omega (arith, p)) in
+    let p = h.counts.page_limit in let r = h.counts.roots_are_pages in let s = h.counts.slot_limit in
+    let pages = number_decimal (MAX_PAGES + 1) layout.pages (omega (arith, p)) (omega (arith, p)) in
     let roots = number_decimal (layout.pages + 1) layout.roots (omega (arith, r)) (omega (arith, p, r)) in
-    let slots = number_decimal (2 ^ 23 + 1) layout.slots (omega (arith, s)) (omega (arith, s)) in
+    let slots = number_decimal (MAX_PAGES + 1) layout.slots (omega (arith, s)) (omega (arith, s)) in
     let some = is_least 1 layout.roots h.counts.some_root in
     let hold = is_least layout.roots layout.slots h.counts.roots_fit in
     simp (pages, roots, slots, some, hold) refl
 
--- each line has plain parts
-uppers_plain : (rest : List (List ℕ)) (page : ℕ) → page + length rest ≤ 2 ^ 23 → ListsFrom page rest → All IsPlainLine (upper_lines page rest)
+-- each line has plain fields
+uppers_plain : (rest : List (List ℕ)) (page : ℕ) → page + length rest ≤ MAX_PAGES → ListsFrom page rest → All IsPlainLine (upper_lines page rest)
 uppers_plain [] page fits lists = All-nil IsPlainLine
 uppers_plain ([] ∷ more) page fits lists = uppers_plain more (page + 1) (omega (arith, fits)) lists.1
 uppers_plain ((upper ∷ uppers) ∷ more) page fits lists =
@@ -152,12 +153,12 @@ uppers_lists layout h =
 
 journal_plain : (layout : Layout) (entries : List Entry) → InBounds layout → All IsTyped entries → All IsPlainLine (journal_lines layout entries)
 journal_plain layout entries h typed =
-    let p = h.counts.few_pages in let r = h.counts.roots_are_pages in let s = h.counts.few_slots in let c = h.list_a_page in
-    All-cons IsPlainLine (layout_parts layout) (upper_lines 0 layout.uppers ++ map entry_parts entries)
+    let p = h.counts.page_limit in let r = h.counts.roots_are_pages in let s = h.counts.slot_limit in let c = h.list_a_page in
+    All-cons IsPlainLine (layout_fields layout) (upper_lines 0 layout.uppers ++ map entry_fields entries)
     (layout_plain layout (omega (arith, p)) (omega (arith, p, r)) (omega (arith, s)))
-    (All-append IsPlainLine (upper_lines 0 layout.uppers) (map entry_parts entries)
+    (All-append IsPlainLine (upper_lines 0 layout.uppers) (map entry_fields entries)
     (uppers_plain layout.uppers 0 (omega (arith, p, c)) (uppers_lists layout h))
-    (All-map IsPlainLine entry_parts entries (All-weaker IsTyped (λ entry. IsPlainLine (entry_parts entry)) entry_plain entries typed)))
+    (All-map IsPlainLine entry_fields entries (All-weaker IsTyped (λ entry. IsPlainLine (entry_fields entry)) entry_plain entries typed)))
 
 -- the law
 pub reads_back : (layout : Layout) (entries : List Entry) → InBounds layout → All IsTyped entries → journal_of (journal_bytes layout entries) ≡ Ok (record { layout = layout; entries = entries })
@@ -165,7 +166,7 @@ reads_back layout entries h typed =
     let start = with_lists layout [] in
     let c = h.list_a_page in
     ap (read_from None 1) (lines_of_printed (journal_lines layout entries) (journal_plain layout entries h typed))
-    ∙ read_step None (drafted start []) 1 (layout_parts layout) (map joined (upper_lines 0 layout.uppers ++ map entry_parts entries))
-    (All-head IsPlainLine (layout_parts layout) (upper_lines 0 layout.uppers ++ map entry_parts entries) (journal_plain layout entries h typed))
+    ∙ read_step None (journal_with start []) 1 (layout_fields layout) (map joined (upper_lines 0 layout.uppers ++ map entry_fields entries))
+    (All-head IsPlainLine (layout_fields layout) (upper_lines 0 layout.uppers ++ map entry_fields entries) (journal_plain layout entries h typed))
     (layout_line layout h)
-    ∙ uppers_read layout.uppers start 0 2 entries (omega arith) (omega (arith, c)) h.counts.few_pages (uppers_lists layout h) typed
+    ∙ uppers_read layout.uppers start 0 2 entries (omega arith) (omega (arith, c)) h.counts.page_limit (uppers_lists layout h) typed

@@ -1,4 +1,4 @@
--- The printed lines have plain parts alone.
+-- The printed lines have plain fields alone.
 use Rattle.std.proofs.Common.{◌≡◌, ℕ, ◌<◌, ◌^◌, List, [], ◌∷◌, ◌++◌, true, Option, None, Some, codes, map, arith, refl}
 use Rattle.std.specs.Prelude.{IfSome, nat_le}
 use Rattle.std.specs.Fmt.{decimal}
@@ -10,9 +10,9 @@ use Rattle.std.proofs.lemmas.Str.Parse.{digit_at}
 use Rattle.hex.specs.Hex.{encode_lower}
 use Rattle.geom_core.specs.declared.digests.Digest32.{Digest32}
 use Rattle.journal.proofs.PrintedDigests.{digits_encode}
-use Rattle.journal.proofs.PrintedParts.{IsPlain, IsPlainLine}
+use Rattle.journal.proofs.PrintedFields.{IsPlain, IsPlainLine}
 use Rattle.journal.specs.Grammar.{is_digest_digit}
-use Rattle.journal.specs.Spelling.{entry_parts, layout_parts, list_parts, optional_part, spoilt_parts, what_parts}
+use Rattle.journal.specs.Spelling.{entry_fields, layout_fields, list_fields, number_or_dash, spoilt_fields, event_fields}
 use Rattle.journal.specs.Typed.{Is32, IsDigest, IsTyped, IsTypedSpoilt, IsTypedWhat}
 use Rattle.journal.specs.declared.entries.Entry.{Entry}
 use Rattle.journal.specs.declared.entries.Spoilt.{Spoilt}
@@ -21,21 +21,21 @@ use Rattle.journal.specs.declared.entries.What.{What}
 use Rattle.journal.specs.declared.entries.What.TheVariants.{Pin, Settle, Ask, Narrow, Unpin, Take, Install, Fail, Spoil, Starve, Full, Stop}
 use Rattle.journal.specs.declared.layouts.Layout.{Layout}
 
--- a part, and several
+-- a field, and several
 abbrev Plain : List ℕ → Type 0
-Plain part = All IsPlain part
+Plain field = All IsPlain field
 
 abbrev Plains : List (List ℕ) → Type 0
 Plains [] = Unit {0}
-Plains (part ∷ rest) = Plain part × Plains rest
+Plains (field ∷ rest) = Plain field × Plains rest
 
-all_plain : (parts : List (List ℕ)) → Plains parts → All Plain parts
+all_plain : (fields : List (List ℕ)) → Plains fields → All Plain fields
 all_plain [] h = All-nil Plain
-all_plain (part ∷ rest) h = All-cons Plain part rest h.0 (all_plain rest h.1)
+all_plain (field ∷ rest) h = All-cons Plain field rest h.0 (all_plain rest h.1)
 
-plains_append : (parts more : List (List ℕ)) → Plains parts → Plains more → Plains (parts ++ more)
+plains_append : (fields more : List (List ℕ)) → Plains fields → Plains more → Plains (fields ++ more)
 plains_append [] more h g = g
-plains_append (part ∷ rest) more h g = (h.0, plains_append rest more h.1 g)
+plains_append (field ∷ rest) more h g = (h.0, plains_append rest more h.1 g)
 
 passes : (byte : ℕ) → nat_le 36 byte ≡ true → IsPlain byte
 passes byte e = grind arith
@@ -62,21 +62,21 @@ numbers : (ns : List ℕ) → All Is32 ns → Plains (map decimal ns)
 numbers [] h = tt
 numbers (n ∷ ns) h = (number_32 n (All-head Is32 n ns h), numbers ns (All-tail Is32 n ns h))
 
-list : (pages : List ℕ) → All Is32 pages → Plains (list_parts pages)
+list : (pages : List ℕ) → All Is32 pages → Plains (list_fields pages)
 list [] h = (word (codes "-") refl, tt)
 list (page ∷ pages) h = numbers (page ∷ pages) h
 
-optional : (n : Option ℕ) → IfSome n Is32 → Plain (optional_part n)
+optional : (n : Option ℕ) → IfSome n Is32 → Plain (number_or_dash n)
 optional None h = word (codes "-") refl
 optional (Some n) h = number_32 n h
 
-spoilt : (why : Spoilt) → IsTypedSpoilt why → Plains (spoilt_parts why)
+spoilt : (why : Spoilt) → IsTypedSpoilt why → Plains (spoilt_fields why)
 spoilt (Digest stated found) h = (word (codes "digest") refl, (hex stated h.0, (hex found h.1, tt)))
 spoilt (Grammar rule offset) h =
     let lt = h.0 in (word (codes "grammar") refl, (number rule (omega (arith, lt)), (number_32 offset h.1, tt)))
 spoilt (Short got) h = (word (codes "short") refl, (number_32 got h, tt))
 
-what : (what : What) → IsTypedWhat what → Plains (what_parts what)
+what : (what : What) → IsTypedWhat what → Plains (event_fields what)
 what (Pin frame) h = (word (codes "pin") refl, (number_32 frame h, tt))
 what (Settle frame pages missing) h = (
   word (codes "settle") refl,
@@ -84,7 +84,7 @@ what (Settle frame pages missing) h = (
     number_32 frame h.0,
     (
       word (codes "pages") refl,
-      plains_append (list_parts pages) (codes "missing" ∷ list_parts missing) (list pages h.1) (word (codes "missing") refl, list missing h.2),
+      plains_append (list_fields pages) (codes "missing" ∷ list_fields missing) (list pages h.1) (word (codes "missing") refl, list missing h.2),
     ),
   ),
 )
@@ -102,13 +102,13 @@ what (Full frame) h = (word (codes "full") refl, (number_32 frame h, tt))
 what Stop h = (word (codes "stop") refl, tt)
 
 -- the line of an entry
-pub entry_plain : (entry : Entry) → IsTyped entry → IsPlainLine (entry_parts entry)
-entry_plain entry h = all_plain (entry_parts entry) (number_32 entry.by h.0, what entry.what h.1)
+pub entry_plain : (entry : Entry) → IsTyped entry → IsPlainLine (entry_fields entry)
+entry_plain entry h = all_plain (entry_fields entry) (number_32 entry.by h.0, what entry.what h.1)
 
 -- the line of a layout
-pub layout_plain : (layout : Layout) → Is32 layout.pages → Is32 layout.roots → Is32 layout.slots → IsPlainLine (layout_parts layout)
+pub layout_plain : (layout : Layout) → Is32 layout.pages → Is32 layout.roots → Is32 layout.slots → IsPlainLine (layout_fields layout)
 layout_plain layout p r s =
-    all_plain (layout_parts layout)
+    all_plain (layout_fields layout)
     (word (codes "layout") refl, (number_32 layout.pages p, (number_32 layout.roots r, (number_32 layout.slots s, tt))))
 
 -- the line of a page's uppers

@@ -1,13 +1,14 @@
--- What a layout says of the pages: which there are, and which stands on which.
+-- What a layout says of the pages: which there are, and which depends on which.
 use Rattle.std.specs.Prelude.{◌≡◌, ◌==◌, ◌+◌, ◌^◌, ◌<◌, ◌≤◌, ◌&&◌, ℕ, Bool, true, List, [], ◌∷◌, length, IsTrue, nat_lt, nat_le, slice_index_or}
 use Rattle.std.specs.List.{list_all, list_any, range_with_len}
+use Rattle.geom_core.specs.declared.limits.TheConstants.{MAX_PAGES}
 use Rattle.journal.specs.declared.layouts.Layout.{Layout}
 
 -- the numbers of all pages, ascending
 abbrev pub page_numbers : Layout → List ℕ
 page_numbers layout = range_with_len 0 layout.pages
 
--- the uppers of a page: the pages that it directly stands on
+-- the uppers of a page: the pages that it directly depends on
 abbrev pub uppers_of : Layout → ℕ → List ℕ
 uppers_of layout page = slice_index_or layout.uppers page []
 
@@ -27,13 +28,13 @@ ascends numbers = ascends_from 0 numbers
 abbrev pub all_below : ℕ → List ℕ → Bool
 all_below limit numbers = list_all (λ n. nat_lt n limit) numbers
 
--- 1 to 2^23 pages, 1 to that many roots, and slots from the roots to 2^23
+-- 1 to MAX_PAGES pages, 1 to `pages` root pages, and `roots` to MAX_PAGES slots
 pub record CountsFit (layout : Layout) : Type 0 where
   pub some_root : 1 ≤ layout.roots
   pub roots_are_pages : layout.roots ≤ layout.pages
-  pub few_pages : layout.pages ≤ 2 ^ 23
+  pub page_limit : layout.pages ≤ MAX_PAGES
   pub roots_fit : layout.roots ≤ layout.slots
-  pub few_slots : layout.slots ≤ 2 ^ 23
+  pub slot_limit : layout.slots ≤ MAX_PAGES
 
 -- the uppers of a page ascend, each below the page
 abbrev pub UppersFit : ℕ → List ℕ → Type 0

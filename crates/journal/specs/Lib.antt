@@ -1,5 +1,7 @@
+pub mod FieldNumber
 pub mod Grammar
 pub mod Layout
-pub mod Left
+pub mod LineResult
+pub mod RestOfLine
 pub mod Spelling
 pub mod Typed

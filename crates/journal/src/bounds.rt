@@ -1,33 +1,32 @@
 ghost use Rattle.std.specs.Prelude.{◌≡◌, ◌+◌, ◌<◌, ◌≤◌, ◌^◌, ◌↔◌, ℕ, IsTrue, length, [], slice_index_or};
+ghost use Rattle.geom_core.specs.declared.limits.TheConstants.{MAX_PAGES};
 ghost use Rattle.journal.specs.Layout.{InBounds, CountsFit, UppersFit};
 
 use crate::Layout;
 use crate::pages::{all_below, ascends};
 use geom_core::Nums;
+use geom_core::limits::MAX_PAGES;
 
-/// The most pages and the most slots that a layout may have.
-const MOST: u32 = 1 << 23;
-
-/// Whether the layout's counts are within their bounds.
+/// Whether the numbers of pages, root pages and slots are within their bounds.
 fn counts_fit(layout: &Layout) -> bool
     ensures { IsTrue result ↔ CountsFit layout.now }
 {
     let pages = layout.pages;
     let roots = layout.roots;
     let slots = layout.slots;
-    1 <= roots && roots <= pages && pages <= MOST && roots <= slots && slots <= MOST
+    1 <= roots && roots <= pages && pages <= MAX_PAGES && roots <= slots && slots <= MAX_PAGES
 }
 
-/// Whether the uppers of a page ascend and lie below it.
+/// Whether the uppers of a page ascend and are below the page.
 fn is_fitting(uppers: &[u32], page: u32) -> bool
     ensures { IsTrue result ↔ UppersFit page uppers.now }
 {
     ascends(uppers) && all_below(page, uppers)
 }
 
-/// Whether each page's uppers ascend and lie below it.
+/// Whether the uppers of each page ascend and are below that page.
 fn all_fit(all: &[Nums]) -> bool
-    requires { length all.now ≤ 2 ^ 23 }
+    requires page_limit { length all.now ≤ MAX_PAGES }
     ensures { IsTrue result
         ↔ ((page : ℕ) → page < length all.now → UppersFit page (slice_index_or all.now page [])) }
 {
@@ -40,8 +39,8 @@ fn all_fit(all: &[Nums]) -> bool
 }
 
 impl Layout {
-    /// Whether the layout is within its bounds: 1 to 2^23 pages with a list of uppers each, 1 to `pages`
-    /// roots, `roots` to 2^23 slots, and uppers that ascend and lie below their page.
+    /// Whether the layout is within its bounds: 1 to `MAX_PAGES` pages with a list of uppers each, 1 to
+    /// `pages` root pages, `roots` to `MAX_PAGES` slots, and uppers that ascend and are below their page.
     pub fn is_in_bounds(&self) -> bool
         ensures { IsTrue result ↔ InBounds self.now }
     {

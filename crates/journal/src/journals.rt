@@ -1,5 +1,6 @@
 use crate::entries::Entries;
 use crate::layouts::Layout;
+use geom_core::Memory;
 use thiserror::Error;
 
 /// A pool's layout and its history: what the text of a journal spells.
@@ -24,6 +25,17 @@ pub enum JournalFault {
     /// Memory ran out.
     #[error("out of memory")]
     Memory,
+}
+
+impl From<Memory> for JournalFault {
+    ghost use Rattle.std.specs.Prelude.{◌≡◌};
+    ghost use Rattle.journal.specs.declared.journals.JournalFault.TheVariants as journal;
+
+    ghost from_gives = { λ _ fault. fault ≡ journal.Memory };
+
+    fn from(_refused: Memory) -> JournalFault {
+        JournalFault::Memory
+    }
 }
 
 #[cfg(test)]

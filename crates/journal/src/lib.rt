@@ -7,15 +7,15 @@
 #![tactic(auto)]
 
 mod bounds;
-mod drafts;
 mod entries;
+mod fields;
+mod journal_builder;
 mod journals;
 mod layouts;
 mod lines;
 mod numbers;
 mod page_lists;
 mod pages;
-mod parts;
 mod reading;
 mod round_trips;
 

@@ -1,104 +1,104 @@
 ghost use Rattle.std.specs.Prelude.{◌≡◌, IfOk};
-ghost use Rattle.journal.specs.Grammar.{entry_of, fail_of, install_of, listed_of, lone_of, plain_of, settle_of, spoil_of, spoilt_digest_of, spoilt_grammar_of, spoilt_of, spoilt_short_of, stop_of, take_of, what_of};
+ghost use Rattle.journal.specs.Grammar.{entry_of, fail_of, install_of, frame_and_pages_of, single_number_of, event_without_list_of, settle_of, spoil_of, spoilt_digest_of, spoilt_grammar_of, spoilt_of, spoilt_short_of, stop_of, take_of, event_of};
 
 use crate::entries::{Entry, Spoilt, What};
-use crate::numbers::{digest, number8, number32, number64, optional32};
-use crate::page_lists::{needed, pages};
-use crate::parts::{Parts, is_word};
+use crate::fields::{Fields, is_word};
+use crate::numbers::{parse_digest, parse_u8, parse_u32, parse_u32_or_dash, parse_u64};
+use crate::page_lists::{pages_until_missing, parse_pages};
 use geom_core::{Memory, Nums};
 use std::alloc::Global;
 
 /// `F` or `P` alone.
-#[tactic(auto, unfolding(crate::specs::Grammar::lone_of))]
-fn lone(parts: Parts) -> Option<u32>
-    ensures { result ≡ lone_of parts.entry }
+#[tactic(auto, unfolding(crate::specs::Grammar::single_number_of))]
+fn single_number(fields: Fields) -> Option<u32>
+    ensures { result ≡ single_number_of fields.entry }
 {
-    number32(parts.only()?)
+    parse_u32(fields.single()?)
 }
 
 /// `F P V`.
 #[tactic(auto, unfolding(crate::specs::Grammar::take_of))]
-fn take(parts: Parts) -> Option<What>
-    ensures { result ≡ take_of parts.entry }
+fn parse_take(fields: Fields) -> Option<What>
+    ensures { result ≡ take_of fields.entry }
 {
-    let (first, second, third) = parts.triple()?;
+    let (first, second, third) = fields.triple()?;
     Some(What::Take {
-        frame: optional32(first)?,
-        page: number32(second)?,
-        victim: optional32(third)?,
+        frame: parse_u32_or_dash(first)?.number(),
+        page: parse_u32(second)?,
+        victim: parse_u32_or_dash(third)?.number(),
     })
 }
 
 /// `P DIGEST`.
 #[tactic(auto, unfolding(crate::specs::Grammar::install_of))]
-fn install(parts: Parts) -> Option<What>
-    ensures { result ≡ install_of parts.entry }
+fn parse_install(fields: Fields) -> Option<What>
+    ensures { result ≡ install_of fields.entry }
 {
-    let (first, second) = parts.pair()?;
+    let (first, second) = fields.pair()?;
     Some(What::Install {
-        page: number32(first)?,
-        digest: digest(second)?,
+        page: parse_u32(first)?,
+        digest: parse_digest(second)?,
     })
 }
 
 /// `P BEFORE AFTER`.
 #[tactic(auto, unfolding(crate::specs::Grammar::fail_of))]
-fn fail(parts: Parts) -> Option<What>
-    ensures { result ≡ fail_of parts.entry }
+fn parse_fail(fields: Fields) -> Option<What>
+    ensures { result ≡ fail_of fields.entry }
 {
-    let (first, second, third) = parts.triple()?;
+    let (first, second, third) = fields.triple()?;
     Some(What::Fail {
-        page: number32(first)?,
-        before: number64(second)?,
-        after: number64(third)?,
+        page: parse_u32(first)?,
+        before: parse_u64(second)?,
+        after: parse_u64(third)?,
     })
 }
 
 /// `STATED FOUND` of a digest.
 #[tactic(auto, unfolding(crate::specs::Grammar::spoilt_digest_of))]
-fn spoilt_digest(parts: Parts) -> Option<Spoilt>
-    ensures { result ≡ spoilt_digest_of parts.entry }
+fn parse_spoilt_digest(fields: Fields) -> Option<Spoilt>
+    ensures { result ≡ spoilt_digest_of fields.entry }
 {
-    let (first, second) = parts.pair()?;
+    let (first, second) = fields.pair()?;
     Some(Spoilt::Digest {
-        stated: digest(first)?,
-        found: digest(second)?,
+        stated: parse_digest(first)?,
+        found: parse_digest(second)?,
     })
 }
 
 /// `RULE OFFSET` of the grammar of pages.
 #[tactic(auto, unfolding(crate::specs::Grammar::spoilt_grammar_of))]
-fn spoilt_grammar(parts: Parts) -> Option<Spoilt>
-    ensures { result ≡ spoilt_grammar_of parts.entry }
+fn parse_spoilt_grammar(fields: Fields) -> Option<Spoilt>
+    ensures { result ≡ spoilt_grammar_of fields.entry }
 {
-    let (first, second) = parts.pair()?;
+    let (first, second) = fields.pair()?;
     Some(Spoilt::Grammar {
-        rule: number8(first)?,
-        offset: number32(second)?,
+        rule: parse_u8(first)?,
+        offset: parse_u32(second)?,
     })
 }
 
 /// `GOT` of a short file.
 #[tactic(auto, unfolding(crate::specs::Grammar::spoilt_short_of))]
-fn spoilt_short(parts: Parts) -> Option<Spoilt>
-    ensures { result ≡ spoilt_short_of parts.entry }
+fn parse_spoilt_short(fields: Fields) -> Option<Spoilt>
+    ensures { result ≡ spoilt_short_of fields.entry }
 {
     Some(Spoilt::Short {
-        got: number32(parts.only()?)?,
+        got: parse_u32(fields.single()?)?,
     })
 }
 
 /// What was wrong, by its word.
 #[tactic(auto, unfolding(crate::specs::Grammar::spoilt_of))]
-fn spoilt(word: &[u8], parts: Parts) -> Option<Spoilt>
-    ensures { result ≡ spoilt_of word.now parts.entry }
+fn parse_spoilt(word: &[u8], fields: Fields) -> Option<Spoilt>
+    ensures { result ≡ spoilt_of word.now fields.entry }
 {
     if is_word(word, b"digest") {
-        spoilt_digest(parts)
+        parse_spoilt_digest(fields)
     } else if is_word(word, b"grammar") {
-        spoilt_grammar(parts)
+        parse_spoilt_grammar(fields)
     } else if is_word(word, b"short") {
-        spoilt_short(parts)
+        parse_spoilt_short(fields)
     } else {
         None
     }
@@ -106,23 +106,23 @@ fn spoilt(word: &[u8], parts: Parts) -> Option<Spoilt>
 
 /// `P` and what was wrong.
 #[tactic(auto, unfolding(crate::specs::Grammar::spoil_of))]
-fn spoil(parts: Parts) -> Option<What>
-    ensures { result ≡ spoil_of parts.entry }
+fn parse_spoil(fields: Fields) -> Option<What>
+    ensures { result ≡ spoil_of fields.entry }
 {
-    let (part, rest) = parts.headed()?;
-    let page = number32(part)?;
-    let (word, more) = rest.headed()?;
+    let (field, rest) = fields.split_first()?;
+    let page = parse_u32(field)?;
+    let (word, more) = rest.split_first()?;
     Some(What::Spoil {
         page,
-        why: spoilt(word, more)?,
+        why: parse_spoilt(word, more)?,
     })
 }
 
 /// Nothing, for the entry that has its word alone.
-fn stop(parts: Parts) -> Option<What>
-    ensures { result ≡ stop_of parts.entry }
+fn parse_stop(fields: Fields) -> Option<What>
+    ensures { result ≡ stop_of fields.entry }
 {
-    if parts.is_done() {
+    if fields.is_empty() {
         Some(What::Stop)
     } else {
         None
@@ -130,34 +130,34 @@ fn stop(parts: Parts) -> Option<What>
 }
 
 /// `F pages L`.
-#[tactic(auto, unfolding(crate::specs::Grammar::listed_of))]
-fn listed(alloc: Global, parts: Parts) -> Result<Option<(u32, Nums)>, Memory>
-    ensures { IfOk result (λ found. found ≡ listed_of parts.entry) }
+#[tactic(auto, unfolding(crate::specs::Grammar::frame_and_pages_of))]
+fn frame_and_pages(alloc: Global, fields: Fields) -> Result<Option<(u32, Nums)>, Memory>
+    ensures { IfOk result (λ found. found ≡ frame_and_pages_of fields.entry) }
 {
-    let Some((part, rest)) = parts.headed() else {
+    let Some((field, rest)) = fields.split_first() else {
         return Ok(None);
     };
-    let (Some(frame), Some(list)) = (number32(part), rest.after_word(b"pages")) else {
+    let (Some(frame), Some(list)) = (parse_u32(field), rest.after_word(b"pages")) else {
         return Ok(None);
     };
-    Ok(pages(alloc, list)?.map(|pages| (frame, pages)))
+    Ok(parse_pages(alloc, list)?.map(|pages| (frame, pages)))
 }
 
 /// `F pages L missing L`.
 #[tactic(auto, unfolding(crate::specs::Grammar::settle_of))]
-fn settle(alloc: Global, parts: Parts) -> Result<Option<What>, Memory>
-    ensures { IfOk result (λ found. found ≡ settle_of parts.entry) }
+fn parse_settle(alloc: Global, fields: Fields) -> Result<Option<What>, Memory>
+    ensures { IfOk result (λ found. found ≡ settle_of fields.entry) }
 {
-    let Some((part, rest)) = parts.headed() else {
+    let Some((field, rest)) = fields.split_first() else {
         return Ok(None);
     };
-    let (Some(frame), Some(lists)) = (number32(part), rest.after_word(b"pages")) else {
+    let (Some(frame), Some(lists)) = (parse_u32(field), rest.after_word(b"pages")) else {
         return Ok(None);
     };
-    let Some((present, awaited)) = needed(alloc, lists)? else {
+    let Some((present, awaited)) = pages_until_missing(alloc, lists)? else {
         return Ok(None);
     };
-    Ok(pages(alloc, awaited)?.map(|missing| What::Settle {
+    Ok(parse_pages(alloc, awaited)?.map(|missing| What::Settle {
         frame,
         pages: present,
         missing,
@@ -165,65 +165,67 @@ fn settle(alloc: Global, parts: Parts) -> Result<Option<What>, Memory>
 }
 
 /// What a maker did, by its word: an entry without a list of pages.
-#[tactic(auto, unfolding(crate::specs::Grammar::plain_of))]
-fn plain(word: &[u8], parts: Parts) -> Option<What>
-    ensures { result ≡ plain_of word.now parts.entry }
+#[tactic(auto, unfolding(crate::specs::Grammar::event_without_list_of))]
+fn parse_event_without_list(word: &[u8], fields: Fields) -> Option<What>
+    ensures { result ≡ event_without_list_of word.now fields.entry }
 {
     if is_word(word, b"pin") {
         Some(What::Pin {
-            frame: lone(parts)?,
+            frame: single_number(fields)?,
         })
     } else if is_word(word, b"unpin") {
         Some(What::Unpin {
-            frame: lone(parts)?,
+            frame: single_number(fields)?,
         })
     } else if is_word(word, b"take") {
-        take(parts)
+        parse_take(fields)
     } else if is_word(word, b"install") {
-        install(parts)
+        parse_install(fields)
     } else if is_word(word, b"fail") {
-        fail(parts)
+        parse_fail(fields)
     } else if is_word(word, b"spoil") {
-        spoil(parts)
+        parse_spoil(fields)
     } else if is_word(word, b"starve") {
-        Some(What::Starve { page: lone(parts)? })
+        Some(What::Starve {
+            page: single_number(fields)?,
+        })
     } else if is_word(word, b"full") {
         Some(What::Full {
-            frame: lone(parts)?,
+            frame: single_number(fields)?,
         })
     } else if is_word(word, b"stop") {
-        stop(parts)
+        parse_stop(fields)
     } else {
         None
     }
 }
 
 /// What a maker did, by its word.
-#[tactic(auto, unfolding(crate::specs::Grammar::what_of))]
-fn what(alloc: Global, word: &[u8], parts: Parts) -> Result<Option<What>, Memory>
-    ensures { IfOk result (λ found. found ≡ what_of word.now parts.entry) }
+#[tactic(auto, unfolding(crate::specs::Grammar::event_of))]
+fn parse_event(alloc: Global, word: &[u8], fields: Fields) -> Result<Option<What>, Memory>
+    ensures { IfOk result (λ found. found ≡ event_of word.now fields.entry) }
 {
     if is_word(word, b"settle") {
-        settle(alloc, parts)
+        parse_settle(alloc, fields)
     } else if is_word(word, b"ask") {
-        Ok(listed(alloc, parts)?.map(|(frame, pages)| What::Ask { frame, pages }))
+        Ok(frame_and_pages(alloc, fields)?.map(|(frame, pages)| What::Ask { frame, pages }))
     } else if is_word(word, b"narrow") {
-        Ok(listed(alloc, parts)?.map(|(frame, pages)| What::Narrow { frame, pages }))
+        Ok(frame_and_pages(alloc, fields)?.map(|(frame, pages)| What::Narrow { frame, pages }))
     } else {
-        Ok(plain(word, parts))
+        Ok(parse_event_without_list(word, fields))
     }
 }
 
 /// An entry: its maker's number, and what it did.
 #[tactic(auto, unfolding(crate::specs::Grammar::entry_of))]
-pub fn entry(alloc: Global, parts: Parts) -> Result<Option<Entry>, Memory>
-    ensures { IfOk result (λ found. found ≡ entry_of parts.entry) }
+pub fn parse_entry(alloc: Global, fields: Fields) -> Result<Option<Entry>, Memory>
+    ensures { IfOk result (λ found. found ≡ entry_of fields.entry) }
 {
-    let Some((part, rest)) = parts.headed() else {
+    let Some((field, rest)) = fields.split_first() else {
         return Ok(None);
     };
-    let (Some(by), Some((word, more))) = (number32(part), rest.headed()) else {
+    let (Some(by), Some((word, more))) = (parse_u32(field), rest.split_first()) else {
         return Ok(None);
     };
-    Ok(what(alloc, word, more)?.map(|what| Entry { by, what }))
+    Ok(parse_event(alloc, word, more)?.map(|what| Entry { by, what }))
 }

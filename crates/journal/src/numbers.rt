@@ -1,45 +1,47 @@
 ghost use Rattle.std.specs.Prelude.{◌≡◌, ◌≤◌, ◌^◌};
 ghost use Rattle.std.specs.Char.{is_ascii_digit};
 ghost use Rattle.std.specs.List.{list_all};
-ghost use Rattle.journal.specs.Grammar.{digest_of, is_digest_digit, is_numeral, number_of, optional_of};
+ghost use Rattle.std.specs.Option.{option_map};
+ghost use Rattle.journal.specs.FieldNumber.{number_in};
+ghost use Rattle.journal.specs.Grammar.{digest_of, is_digest_digit, is_numeral, number_of, number_or_dash_of};
 
-use crate::parts::is_word;
+use crate::fields::is_word;
 use geom_core::Digest32;
 
-/// Whether a part has digits alone.
-fn has_digits_alone(part: &[u8]) -> bool
-    ensures { result ≡ list_all is_ascii_digit part.now }
+/// Whether a field has digits alone.
+fn has_digits_alone(field: &[u8]) -> bool
+    ensures { result ≡ list_all is_ascii_digit field.now }
 {
-    part.iter().all(|byte| byte.is_ascii_digit())
+    field.iter().all(|byte| byte.is_ascii_digit())
 }
 
-/// Whether a part is a numeral: digits, at least one, and no zero before another digit.
-fn is_numeral(part: &[u8]) -> bool
-    ensures { result ≡ is_numeral part.now }
+/// Whether a field is a numeral: digits, at least one, and no zero before another digit.
+fn is_numeral(field: &[u8]) -> bool
+    ensures { result ≡ is_numeral field.now }
 {
-    has_digits_alone(part) && !part.is_empty() && !(part[0] == b'0' && part.len() > 1)
+    has_digits_alone(field) && !field.is_empty() && !(field[0] == b'0' && field.len() > 1)
 }
 
-/// The number of 64 bits that a part spells.
-pub fn number64(part: &[u8]) -> Option<u64>
-    ensures { result ≡ number_of (2 ^ 64) part.now }
+/// The number of 64 bits that a field spells.
+pub fn parse_u64(field: &[u8]) -> Option<u64>
+    ensures { result ≡ number_of (2 ^ 64) field.now }
 {
-    if !is_numeral(part) {
+    if !is_numeral(field) {
         return None;
     }
-    match std::str::from_utf8(part) {
+    match std::str::from_utf8(field) {
         Ok(text) => text.parse().ok(),
         Err(_) => None,
     }
 }
 
-/// The number below `limit` that a part spells.
+/// The number below `limit` that a field spells.
 #[tactic(auto, using(crate::proofs::Limits::number_none, crate::proofs::Limits::number_some))]
-pub fn number_below(part: &[u8], limit: u64) -> Option<u32>
+pub fn parse_below(field: &[u8], limit: u64) -> Option<u32>
     requires { limit ≤ 2 ^ 32 }
-    ensures { result ≡ number_of limit part.now }
+    ensures { result ≡ number_of limit field.now }
 {
-    let number = number64(part)?;
+    let number = parse_u64(field)?;
     if number < limit {
         Some(number as u32)
     } else {
@@ -47,19 +49,19 @@ pub fn number_below(part: &[u8], limit: u64) -> Option<u32>
     }
 }
 
-/// The number of 32 bits that a part spells.
-pub fn number32(part: &[u8]) -> Option<u32>
-    ensures { result ≡ number_of (2 ^ 32) part.now }
+/// The number of 32 bits that a field spells.
+pub fn parse_u32(field: &[u8]) -> Option<u32>
+    ensures { result ≡ number_of (2 ^ 32) field.now }
 {
-    number_below(part, 1 << 32)
+    parse_below(field, 1 << 32)
 }
 
-/// The number of 8 bits that a part spells.
+/// The number of 8 bits that a field spells.
 #[tactic(auto, using(crate::proofs::Limits::number_none, crate::proofs::Limits::number_some))]
-pub fn number8(part: &[u8]) -> Option<u8>
-    ensures { result ≡ number_of (2 ^ 8) part.now }
+pub fn parse_u8(field: &[u8]) -> Option<u8>
+    ensures { result ≡ number_of (2 ^ 8) field.now }
 {
-    let number = number64(part)?;
+    let number = parse_u64(field)?;
     if number < 1 << 8 {
         Some(number as u8)
     } else {
@@ -67,34 +69,58 @@ pub fn number8(part: &[u8]) -> Option<u8>
     }
 }
 
-/// The number of 32 bits that a part spells, or None at `-`.
-pub fn optional32(part: &[u8]) -> Option<Option<u32>>
-    ensures { result ≡ optional_of part.now }
-{
-    if is_word(part, b"-") {
-        Some(None)
-    } else {
-        Some(Some(number32(part)?))
+/// A field that has a number, or `-` for none.
+#[derive(Clone, Copy)]
+pub enum Field {
+    /// The number.
+    Number(u32),
+    /// `-`.
+    Dash,
+}
+
+impl Field {
+    ghost use Rattle.journal.specs.FieldNumber.{number_in};
+
+    /// Returns the number, or None for `-`.
+    pub fn number(self) -> Option<u32>
+        ensures { result ≡ number_in self }
+    {
+        match self {
+            Field::Number(number) => Some(number),
+            Field::Dash => None,
+        }
     }
 }
 
-/// Whether a part has digits of a digest alone.
-fn has_digest_digits_alone(part: &[u8]) -> bool
-    ensures { result ≡ list_all is_digest_digit part.now }
+/// The number of 32 bits that a field spells, or `-`.
+pub fn parse_u32_or_dash(field: &[u8]) -> Option<Field>
+    ensures { option_map number_in result ≡ number_or_dash_of field.now }
 {
-    part.iter()
+    if is_word(field, b"-") {
+        Some(Field::Dash)
+    } else {
+        Some(Field::Number(parse_u32(field)?))
+    }
+}
+
+/// Whether a field has digits of a digest alone.
+fn has_digest_digits_alone(field: &[u8]) -> bool
+    ensures { result ≡ list_all is_digest_digit field.now }
+{
+    field
+        .iter()
         .all(|byte| matches!(*byte, b'0'..=b'9' | b'a'..=b'f'))
 }
 
-/// The digest that a part spells, in 64 lower-case hexadecimal digits.
-pub fn digest(part: &[u8]) -> Option<Digest32>
-    ensures { result ≡ digest_of part.now }
+/// The digest that a field spells, in 64 lower-case hexadecimal digits.
+pub fn parse_digest(field: &[u8]) -> Option<Digest32>
+    ensures { result ≡ digest_of field.now }
 {
-    if !has_digest_digits_alone(part) {
+    if !has_digest_digits_alone(field) {
         return None;
     }
     let mut bytes = [0; 32];
-    if hex::decode_to_slice(part, &mut bytes).is_ok() {
+    if hex::decode_to_slice(field, &mut bytes).is_ok() {
         Some(Digest32 { bytes })
     } else {
         None

@@ -2,13 +2,26 @@ ghost use Rattle.std.specs.Prelude.{◌≡◌, ◌<◌, ◌∷◌, Err, IfOk, Ma
 ghost use Rattle.journal.specs.Layout.{InBounds};
 ghost use Rattle.std.specs.List.{All};
 ghost use Rattle.journal.specs.Typed.{IsTyped};
-ghost use Rattle.journal.specs.Grammar.{after_line, is_comment, journal_of, lines_of, with_line};
+ghost use Rattle.journal.specs.Grammar.{is_comment, journal_of, lines_of, with_line};
+ghost use Rattle.journal.specs.LineResult.{line_result};
+ghost use Rattle.journal.specs.declared.reading.LineResult.TheVariants as LineResult;
 
-use crate::drafts::Draft;
+use crate::fields::{Fields, cut_at};
+use crate::journal_builder::JournalBuilder;
 use crate::journals::{Journal, JournalFault};
-use crate::parts::{Parts, cut_at};
 use geom_core::Memory;
 use std::alloc::Global;
+
+/// What one line is, after the lines before it.
+#[derive(Drop)]
+pub enum LineResult {
+    /// A comment: what was read so far stays as it is.
+    Comment,
+    /// A line of the grammar: what was read so far, with this line.
+    Accepted(JournalBuilder),
+    /// A line outside the grammar.
+    Bad,
+}
 
 /// The first line of a text, and what stands after its LF; None at the text's end.
 fn first_line(text: &[u8]) -> Option<(&[u8], &[u8])>
@@ -37,53 +50,40 @@ fn is_comment(text: &[u8]) -> bool
     }
 }
 
-/// What the lines up to a further one say, once its parts are told.
+/// What the lines up to a further one say, once its fields are told.
 #[tactic(auto, unfolding(crate::specs::Grammar::with_line))]
-fn with_line(alloc: Global, said: Option<Draft>, parts: Parts) -> Result<Option<Draft>, Memory>
-    ensures { IfOk result (λ found. found ≡ with_line said parts.entry) }
+fn with_line(
+    alloc: Global,
+    so_far: Option<JournalBuilder>,
+    fields: Fields,
+) -> Result<Option<JournalBuilder>, Memory>
+    ensures { IfOk result (λ found. found ≡ with_line so_far fields.entry) }
 {
-    match said {
-        None => Ok(Draft::begun(alloc, parts)),
-        Some(draft) => match parts.again().after_word(b"upper") {
-            Some(rest) => draft.with_upper(alloc, rest),
-            None => draft.with_entry(alloc, parts),
+    match so_far {
+        None => Ok(JournalBuilder::from_layout_line(alloc, fields)),
+        Some(builder) => match fields.reborrow().after_word(b"upper") {
+            Some(rest) => builder.with_upper(alloc, rest),
+            None => builder.with_entry(alloc, fields),
         },
     }
 }
 
-/// What the lines up to a further one say, where one that begins with `#` says nothing.
-#[tactic(auto, unfolding(crate::specs::Grammar::after_line))]
-fn after_line(
+/// Reads one line, and takes what was read so far unless the line is a comment.
+#[tactic(auto, unfolding(crate::specs::LineResult::line_result))]
+fn read_line(
     alloc: Global,
-    said: Option<Draft>,
+    so_far: &mut Option<JournalBuilder>,
     text: &[u8],
-) -> Result<Option<Option<Draft>>, Memory>
-    ensures { IfOk result (λ found. found ≡ after_line said text.now) }
+) -> Result<LineResult, Memory>
+    ensures line_result { IfOk result (λ read. read ≡ line_result so_far.old text.now) }
+    ensures unchanged { result ≡ Ok LineResult.Comment → so_far.new ≡ so_far.old }
 {
     if is_comment(text) {
-        return Ok(Some(said));
+        return Ok(LineResult::Comment);
     }
-    Ok(with_line(alloc, said, Parts::of(text))?.map(Some))
-}
-
-/// The journal that a text spells, or the number of its first line outside the grammar.
-fn journal_or_line(alloc: Global, text: &[u8]) -> Result<Result<Journal, u64>, Memory>
-    ensures { IfOk result (λ read. read ≡ journal_of text.now) }
-{
-    let mut said = None;
-    let mut line = 1;
-    let mut left = text;
-    while let Some((this, rest)) = first_line(left) {
-        let Some(now_said) = after_line(alloc, said, this)? else {
-            return Ok(Err(line));
-        };
-        said = now_said;
-        line += 1;
-        left = rest;
-    }
-    match said {
-        Some(draft) => Ok(Ok(draft.complete(alloc)?)),
-        None => Ok(Err(line)),
+    match with_line(alloc, so_far.take(), Fields::from_line(text))? {
+        Some(builder) => Ok(LineResult::Accepted(builder)),
+        None => Ok(LineResult::Bad),
     }
 }
 
@@ -106,7 +106,7 @@ fn journal_or_line(alloc: Global, text: &[u8]) -> Result<Result<Journal, u64>, M
 /// | `Starve` | `starve P` |
 /// | `Stop` | `stop` |
 ///
-/// One space stands between two parts of a line, and no other blank. A number is decimal, without a
+/// One space stands between two fields of a line, and no other blank. A number is decimal, without a
 /// leading zero, and within its field's type; a digest has 64 lower-case hexadecimal digits; a list L
 /// has numbers, or is `-` where it is empty. LF ends a line, and may lack behind the last one. A line
 /// that begins with `#` is passed over anywhere, and counts as a line. Whether an entry may stand
@@ -120,10 +120,21 @@ pub fn read_journal(alloc: Global, text: &[u8]) -> Result<Journal, JournalFault>
     ensures outside { (line : ℕ) → result ≡ Err (JournalFault.Line line) →
         journal_of text.now ≡ Err line }
 {
-    match journal_or_line(alloc, text) {
-        Ok(Ok(journal)) => Ok(journal),
-        Ok(Err(line)) => Err(JournalFault::Line { line }),
-        Err(Memory) => Err(JournalFault::Memory),
+    let mut so_far = None;
+    let mut line = 1;
+    let mut left = text;
+    while let Some((this, rest)) = first_line(left) {
+        match read_line(alloc, &mut so_far, this)? {
+            LineResult::Comment => {}
+            LineResult::Accepted(builder) => so_far = Some(builder),
+            LineResult::Bad => return Err(JournalFault::Line { line }),
+        }
+        line += 1;
+        left = rest;
+    }
+    match so_far {
+        Some(builder) => Ok(builder.build(alloc)?),
+        None => Err(JournalFault::Line { line }),
     }
 }
 
@@ -314,8 +325,8 @@ mod tests {
             ("no word", "layout 1 1 1\n0", 2),
             ("another word", "layout 1 1 1\n0 pins 1", 2),
             ("a word in upper case", "layout 1 1 1\n0 Pin 1", 2),
-            ("a part too few", "layout 1 1 1\n0 take - 1", 2),
-            ("a part too many", "layout 1 1 1\n0 stop 1", 2),
+            ("a field too few", "layout 1 1 1\n0 take - 1", 2),
+            ("a field too many", "layout 1 1 1\n0 stop 1", 2),
             ("a page that is missing", "layout 1 1 1\n0 take 1 - 1", 2),
             ("a list without `-`", "layout 1 1 1\n0 ask 1 pages", 2),
             ("`-` before a number", "layout 1 1 1\n0 ask 1 pages - 1", 2),

@@ -4,7 +4,7 @@ use Rattle.std.specs.declared.cmp.Ordering.TheVariants.{Less, Equal, Greater}
 use Rattle.journal.specs.declared.layouts.Layout.{Layout}
 use Rattle.pool_leaves.specs.Leaf.{count_on, fits, is_counted_leaf, is_counted_live, is_leaf, is_live, rank, rank_cmp}
 use Rattle.pool_leaves.specs.Recent.{AreInTurn, IsBehind, first_of, is_recent}
-use Rattle.pool_rules.specs.State.{State, opening}
+use Rattle.pool_rules.specs.State.{State, initial_state}
 
 -- Pages 1 and 3 stand on the root page, page 2 on page 1.
 abbrev branch : Layout
@@ -12,7 +12,7 @@ branch = record { pages = 4; roots = 1; slots = 3; uppers = [] ∷ (0 ∷ []) �
 
 -- the root page and page 1 are resident, and page 1 was named by the fourth entry
 abbrev came_1 : State
-came_1 = record (opening branch) { resident = true ∷ true ∷ false ∷ false ∷ []; named = 2 ∷ 4 ∷ 0 ∷ 0 ∷ [] }
+came_1 = record (initial_state branch) { resident = true ∷ true ∷ false ∷ false ∷ []; named = 2 ∷ 4 ∷ 0 ∷ 0 ∷ [] }
 
 -- page 2 is being loaded besides
 abbrev loading_2 : State
@@ -34,7 +34,7 @@ pub count_on_held : map (count_on branch (λ q. q == 2)) pages ≡ 0 ∷ 1 ∷ 0
 count_on_held = refl
 
 -- Leaves: no root page, though nothing that is resident stands on it.
-pub is_leaf_root : map (is_leaf branch (opening branch)) pages ≡ false ∷ false ∷ false ∷ false ∷ []
+pub is_leaf_root : map (is_leaf branch (initial_state branch)) pages ≡ false ∷ false ∷ false ∷ false ∷ []
 is_leaf_root = refl
 
 -- nor a page that isn't resident

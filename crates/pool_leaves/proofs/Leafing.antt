@@ -23,7 +23,7 @@ use Rattle.journal.specs.declared.entries.What.TheVariants.{Pin, Settle, Ask, Na
 use Rattle.journal.specs.declared.layouts.Layout.{Layout}
 use Rattle.journal.specs.Layout.{page_numbers, uppers_of, is_upper}
 use Rattle.pool_leaves.specs.Leaf.{CountsLowers, Removes, is_counted_leaf, is_counted_live, is_leaf, is_live, rank, rank_cmp, ranks}
-use Rattle.pool_rules.specs.State.{State, changed, is_resident, is_held, name_at}
+use Rattle.pool_rules.specs.State.{State, state_after_event, is_resident, is_held, name_at}
 use Rattle.pool_rules.specs.Victim.{is_stood_on, named_of}
 use Rattle.pool_leaves.proofs.Stood.{count-test}
 use Rattle.pool_state.proofs.Agreed.{name_at-len}
@@ -179,7 +179,7 @@ any-more page i pages below h =
     ⊎_elim (λ old. inl old) (λ here. inr (same-eqb (get_or pages i 0) page here)) (or-cases (list_any (λ p. p == page) (take i pages)) (get_or pages i 0 == page) (sym (list_any_more (λ p. p == page) pages i 0 below) ∙ h))
 
 -- the lists by page keep their lengths
-pub named-len : (s : State) (by : ℕ) (what : What) → length (changed s by what).named ≡ length s.named
+pub named-len : (s : State) (by : ℕ) (what : What) → length (state_after_event s by what).named ≡ length s.named
 named-len s by (Pin f) = refl
 named-len s by (Settle f ps ms) = name_at-len s.named ps (s.entries + 1)
 named-len s by (Ask f ps) = refl

@@ -21,7 +21,7 @@ use Rattle.pool_leaves.specs.Recent.{is_recent}
 use Rattle.pool_state.specs.Naming.{IsUnnamed, names}
 use Rattle.pool_state.specs.Moved.{Moves, Stays, since_after, still_names}
 use Rattle.pool_state.specs.Shown.{shown}
-use Rattle.pool_rules.specs.State.{State, changed, is_held, is_resident, named_after, opening}
+use Rattle.pool_rules.specs.State.{State, state_after_event, is_held, is_resident, named_after, initial_state}
 use Rattle.pool_rules.specs.Victim.{is_pinned}
 use Rattle.pool_rules.proofs.Flags.{get_or-set_cases}
 use Rattle.pool_state.proofs.Held.{pinned-covered}
@@ -226,10 +226,10 @@ came-after s since (Full f) len came entries p = came p
 came-after s since Stop len came entries p = came p
 
 -- after an entry whose leaves had their places before
-pub Places-moved : (layout : Layout) (frames frames' : List Frame) (x y : Standing) (by : ℕ) (what : What) (old leaves : Leaves) → Agrees x.entries frames x → IsReady layout frames x by what leaves → Moves what x y → shown y frames' ≡ record (changed (shown x frames) by what) { entries = x.entries + 1 } → length y.places.resident.items ≡ layout.pages → Places layout frames x old → Places layout frames' y leaves
+pub Places-moved : (layout : Layout) (frames frames' : List Frame) (x y : Standing) (by : ℕ) (what : What) (old leaves : Leaves) → Agrees x.entries frames x → IsReady layout frames x by what leaves → Moves what x y → shown y frames' ≡ record (state_after_event (shown x frames) by what) { entries = x.entries + 1 } → length y.places.resident.items ≡ layout.pages → Places layout frames x old → Places layout frames' y leaves
 Places-moved layout frames frames' x y by what old leaves agrees ready moves shows len places =
     let s = shown x frames in
-    let s' : State = record (changed s by what) { entries = x.entries + 1 } in
+    let s' : State = record (state_after_event s by what) { entries = x.entries + 1 } in
     let P : State → Type 0 = λ t. IsListed layout t leaves in
     let Q : State → Type 0 = λ t. IsPlaced layout t (names y.frames.holds) y.since.items leaves in
     let named : y.named.items ≡ named_after s what = ap (λ (t : State). t.named) shows in
@@ -307,7 +307,7 @@ Places-same layout frames x old new recent order parked places = record {
 }
 
 -- before any entry no page is a leaf but for root pages
-pub Ranks-opening : (layout : Layout) (x : Standing) (leaves : Leaves) → shown x [] ≡ opening layout → Agrees 0 [] x → CountsLowers layout (is_held (opening layout)) leaves.lowers.items → Ranks layout [] x leaves
+pub Ranks-opening : (layout : Layout) (x : Standing) (leaves : Leaves) → shown x [] ≡ initial_state layout → Agrees 0 [] x → CountsLowers layout (is_held (initial_state layout)) leaves.lowers.items → Ranks layout [] x leaves
 Ranks-opening layout x leaves shows agrees lowers =
     let P : State → Type 0 = λ t. CountsLowers layout (is_held t) leaves.lowers.items in
     let Q : State → Type 0 = λ t. (p : ℕ) → is_leaf layout t p ≡ true → ⊥ in
@@ -323,8 +323,8 @@ Ranks-opening layout x leaves shows agrees lowers =
       };
     }
   where
-    no_leaf : (p : ℕ) → is_leaf layout (opening layout) p ≡ true → ⊥
+    no_leaf : (p : ℕ) → is_leaf layout (initial_state layout) p ≡ true → ⊥
     no_leaf p h =
-        let leaf = leaf-parts layout (opening layout) p h in
+        let leaf = leaf-parts layout (initial_state layout) p h in
         let root : nat_lt p layout.roots ≡ true = (Decides-ltb p layout.roots).1 (resident-root layout p leaf.resident) in
         never-both (nat_lt p layout.roots) root leaf.inner

@@ -16,7 +16,7 @@ use Rattle.pool_state.specs.declared.frames.Hold.{Hold}
 use Rattle.journal.specs.declared.layouts.Layout.{Layout}
 use Rattle.pool_leaves.specs.declared.leaves.Leaves.{Leaves}
 use Rattle.pool_state.specs.declared.standings.Standing.{Standing}
-use Rattle.pool_rules.specs.declared.wants.Want.{Want}
+use Rattle.pool_rules.specs.declared.want.Want.{Want}
 use Rattle.pool_rules.specs.Frame.{Frame}
 use Rattle.pool_state.specs.Holding.{covers, frame_at, pins_of}
 use Rattle.journal.specs.Layout.{InBounds, is_upper, page_numbers, uppers_of}
@@ -27,7 +27,7 @@ use Rattle.pool_state.specs.Moved.{still_names}
 use Rattle.pool_rules.specs.Rules.{allows, loads, rose, last_after, is_wrong}
 use Rattle.pool_state.specs.Shown.{shown}
 use Rattle.pool_rules.specs.Sound.{IsSound}
-use Rattle.pool_rules.specs.State.{State, changed, is_resident, is_held, marked, put, waits_for, with_installed}
+use Rattle.pool_rules.specs.State.{State, state_after_event, is_resident, is_held, marked, replace_frame, waits_for, frame_after_install}
 use Rattle.pool_rules.specs.Victim.{is_pinned, named_of}
 use Rattle.pool_state.proofs.Agreed.{marked-resident, other-page}
 use Rattle.pool_rules.proofs.Allowed.{installed-below, narrowed-resident, settled-resident}
@@ -115,13 +115,13 @@ still-pinned entries frames frames' x n p hold agrees at same pins =
 apart-eqb : (n m : ℕ) → n ≢ m → (m == n) ≡ false
 apart-eqb n m apart = not-so (m == n) (λ e. apart (sym (same-eqb m n e)))
 
-other-put : (n : ℕ) (f : Frame) (frames : List Frame) → n ≢ f.number → frame_at n (put f frames) ≡ frame_at n frames
+other-put : (n : ℕ) (f : Frame) (frames : List Frame) → n ≢ f.number → frame_at n (replace_frame f frames) ≡ frame_at n frames
 other-put n f frames apart = frame_at-put n f frames ∙ ap (λ b. cond b (Some f) (frame_at n frames)) (apart-eqb n f.number apart)
 
-own-put : (f : Frame) (frames : List Frame) (p : ℕ) → get_or f.pins p false ≡ true → list_any (λ g. get_or g.pins p false) (put f frames) ≡ true
+own-put : (f : Frame) (frames : List Frame) (p : ℕ) → get_or f.pins p false ≡ true → list_any (λ g. get_or g.pins p false) (replace_frame f frames) ≡ true
 own-put f frames p pins =
     let here : (f.number == f.number) ≡ true = grind (arith, nat_tests) in
-    any-found (λ g. get_or g.pins p false) f.number (put f frames) f (frame_at-put f.number f frames ∙ ap (λ b. cond b (Some f) (frame_at f.number frames)) here) pins
+    any-found (λ g. get_or g.pins p false) f.number (replace_frame f frames) f (frame_at-put f.number f frames ∙ ap (λ b. cond b (Some f) (frame_at f.number frames)) here) pins
 
 other-ended : (n m : ℕ) (frames : List Frame) → n ≢ m → frame_at n (filter (λ f. not (f.number == m)) frames) ≡ frame_at n frames
 other-ended n m frames apart = frame_at-others n m frames ∙ ap (λ b. cond b None (frame_at n frames)) (apart-eqb n m apart)
@@ -153,7 +153,7 @@ no-page p h = cc
 
 -- ---- the entries of a frame
 
-left-unpin : (layout : Layout) (entries : ℕ) (frames : List Frame) (x : Standing) (by frame : ℕ) (moment : Option ℕ) → Agrees entries frames x → IfSome moment (λ m. (f : ℕ) × (f ≢ frame) × (get nat_cmp x.frames.moments m ≡ Some f)) → IsLeft layout frames x frame moment [] (changed (shown x frames) by (Unpin frame)) (still_names (Unpin frame) x.frames.holds)
+left-unpin : (layout : Layout) (entries : ℕ) (frames : List Frame) (x : Standing) (by frame : ℕ) (moment : Option ℕ) → Agrees entries frames x → IfSome moment (λ m. (f : ℕ) × (f ≢ frame) × (get nat_cmp x.frames.moments m ≡ Some f)) → IsLeft layout frames x frame moment [] (state_after_event (shown x frames) by (Unpin frame)) (still_names (Unpin frame) x.frames.holds)
 left-unpin layout entries frames x by frame moment agrees other = record {
   leaf = λ p leaf. leaf;
   others = λ n p apart has. named-still entries frames _ x n p agrees (other-ended n frame frames apart) has;
@@ -164,7 +164,7 @@ left-unpin layout entries frames x by frame moment agrees other = record {
   still_own = λ p has. absurd (no-page p has);
 }
 
-left-narrow : (layout : Layout) (entries : ℕ) (frames : List Frame) (x : Standing) (by frame : ℕ) (pages : List ℕ) (moment : Option ℕ) → Agrees entries frames x → list_all (is_resident (shown x frames)) pages ≡ true → IfSome moment (λ m. (f : ℕ) × (f ≢ frame) × (get nat_cmp x.frames.moments m ≡ Some f)) → IsLeft layout frames x frame moment pages (changed (shown x frames) by (Narrow frame pages)) (still_names (Narrow frame pages) x.frames.holds)
+left-narrow : (layout : Layout) (entries : ℕ) (frames : List Frame) (x : Standing) (by frame : ℕ) (pages : List ℕ) (moment : Option ℕ) → Agrees entries frames x → list_all (is_resident (shown x frames)) pages ≡ true → IfSome moment (λ m. (f : ℕ) × (f ≢ frame) × (get nat_cmp x.frames.moments m ≡ Some f)) → IsLeft layout frames x frame moment pages (state_after_event (shown x frames) by (Narrow frame pages)) (still_names (Narrow frame pages) x.frames.holds)
 left-narrow layout entries frames x by frame pages moment agrees all other = record {
   leaf = λ p leaf. leaf;
   others = λ n p apart has. named-still entries frames _ x n p agrees (other-put n _ frames apart) has;
@@ -235,10 +235,10 @@ count-upper-most layout page p bounds =
     (λ past. let none : count_in p (uppers_of layout page) ≡ 0 = ap (count_in p) (get_or_past layout.uppers page [] (omega (arith, past, bounds.list_a_page))) in omega (arith, none))
     (cases_lt page layout.pages)
 
-bared-taken : (layout : Layout) (frames : List Frame) (x : Standing) (by : ℕ) (frame : Option ℕ) (page : ℕ) (new : Leaves) → IsSound layout (shown x frames) → IsTaken layout (shown x frames) page None → IsBared layout frames x (changed (shown x frames) by (Take frame page None)) new
+bared-taken : (layout : Layout) (frames : List Frame) (x : Standing) (by : ℕ) (frame : Option ℕ) (page : ℕ) (new : Leaves) → IsSound layout (shown x frames) → IsTaken layout (shown x frames) page None → IsBared layout frames x (state_after_event (shown x frames) by (Take frame page None)) new
 bared-taken layout frames x by frame page new sound told =
     let s = shown x frames in
-    let s' = changed s by (Take frame page None) in
+    let s' = state_after_event s by (Take frame page None) in
     let begins = Begins-taken layout s by frame page None sound told in
     record {
       leaf = λ p leaf.
@@ -249,11 +249,11 @@ bared-taken layout frames x by frame page new sound told =
       named = λ p. refl;
     }
 
-bared-evicted : (layout : Layout) (frames : List Frame) (x : Standing) (by : ℕ) (frame : Option ℕ) (page v : ℕ) (new : Leaves) → InBounds layout → IsSound layout (shown x frames) → IsTaken layout (shown x frames) page (Some v) → BaresUppers layout frames x new v → IsBared layout frames x (changed (shown x frames) by (Take frame page (Some v))) new
+bared-evicted : (layout : Layout) (frames : List Frame) (x : Standing) (by : ℕ) (frame : Option ℕ) (page v : ℕ) (new : Leaves) → InBounds layout → IsSound layout (shown x frames) → IsTaken layout (shown x frames) page (Some v) → BaresUppers layout frames x new v → IsBared layout frames x (state_after_event (shown x frames) by (Take frame page (Some v))) new
 bared-evicted layout frames x by frame page v new bounds sound told bares =
     let s = shown x frames in
-    let mid = changed s by (Take frame page None) in
-    let s' = changed s by (Take frame page (Some v)) in
+    let mid = state_after_event s by (Take frame page None) in
+    let s' = state_after_event s by (Take frame page (Some v)) in
     let begins = Begins-taken layout s by frame page (Some v) sound told in
     let ends = Begins-evicted layout s by frame page v sound told in
     record {
@@ -275,10 +275,10 @@ bared-evicted layout frames x by frame page v new bounds sound told bares =
       named = λ p. refl;
     }
 
-bared-ended : (layout : Layout) (frames : List Frame) (x : Standing) (by page : ℕ) (new : Leaves) → InBounds layout → IsSound layout (shown x frames) → loads (shown x frames) by page ≡ true → BaresUppers layout frames x new page → IsBared layout frames x (changed (shown x frames) by (Starve page)) new
+bared-ended : (layout : Layout) (frames : List Frame) (x : Standing) (by page : ℕ) (new : Leaves) → InBounds layout → IsSound layout (shown x frames) → loads (shown x frames) by page ≡ true → BaresUppers layout frames x new page → IsBared layout frames x (state_after_event (shown x frames) by (Starve page)) new
 bared-ended layout frames x by page new bounds sound loaded bares =
     let s = shown x frames in
-    let s' = changed s by (Starve page) in
+    let s' = state_after_event s by (Starve page) in
     let ends = Begins-ended layout s by page sound loaded in
     record {
       leaf = λ p leaf.
@@ -328,12 +328,12 @@ IsReady-unloaded layout journal entries frames x by page what old new (inr (inr 
 
 -- ---- an Install
 
-pins-more : (wants : List Want) (page p : ℕ) (frames : List Frame) → list_any (λ f. get_or f.pins p false) frames ≡ true → list_any (λ f. get_or f.pins p false) (map (with_installed wants page) frames) ≡ true
+pins-more : (wants : List Want) (page p : ℕ) (frames : List Frame) → list_any (λ f. get_or f.pins p false) frames ≡ true → list_any (λ f. get_or f.pins p false) (map (frame_after_install wants page) frames) ≡ true
 pins-more wants page p [] h = cc
 pins-more wants page p (f ∷ frames) h =
     ⊎_elim
-    (λ here. or-left (get_or (with_installed wants page f).pins p false) _ (one (waits_for wants f.number page) here))
-    (λ later. or-right (get_or (with_installed wants page f).pins p false) _ (pins-more wants page p frames later))
+    (λ here. or-left (get_or (frame_after_install wants page f).pins p false) _ (one (waits_for wants f.number page) here))
+    (λ later. or-right (get_or (frame_after_install wants page f).pins p false) _ (pins-more wants page p frames later))
     (or-cases (get_or f.pins p false) (list_any (λ g. get_or g.pins p false) frames) h)
   where
     one : (b : Bool) → get_or f.pins p false ≡ true → get_or (cond b (record f { pins = set f.pins page true }) f).pins p false ≡ true
@@ -360,7 +360,7 @@ IsReady-installed layout entries frames x by page digest old new agrees sound lo
     s = shown x frames
 
     s' : State
-    s' = changed (shown x frames) by (Install page digest)
+    s' = state_after_event (shown x frames) by (Install page digest)
 
     own : (p : ℕ) → page ≡ p → stands new (named_of s' p) p ≡ true
     own p same =
@@ -379,7 +379,7 @@ IsReady-installed layout entries frames x by page digest old new agrees sound lo
 -- after a Pin each leaf is pinned, and what is pinned by name stays so
 IsReady-pin : (layout : Layout) (frames : List Frame) (x : Standing) (by frame : ℕ) (old : Leaves) → Ranks layout frames x old → IsReady layout frames x by (Pin frame) old
 IsReady-pin layout frames x by frame old ranked =
-    let s' = changed (shown x frames) by (Pin frame) in
+    let s' = state_after_event (shown x frames) by (Pin frame) in
     record {
       listed = λ p leaf loose. absurd (never-both (is_pinned s' p) (own-put (record { number = frame; owner = by; pins = x.places.resident.items }) frames p (leaf-parts layout s' p leaf).resident) loose);
       placed = ranked.places.placed;

@@ -12,7 +12,7 @@ use Rattle.journal.specs.Layout.{InBounds, page_numbers, uppers_of, is_upper, as
 use Rattle.pool_leaves.specs.Leaf.{count_on, Begins, CountsLowers}
 use Rattle.pool_state.proofs.Counts.{count_in, count_in-cons, one-cond}
 use Rattle.pool_rules.proofs.Ranges.{range_with_len-more}
-use Rattle.pool_rules.specs.State.{is_held, opening}
+use Rattle.pool_rules.specs.State.{is_held, initial_state}
 use Rattle.pool_rules.proofs.Soundness.{root-resident, none-loading}
 use Rattle.pool_rules.proofs.Tests.{and-both}
 
@@ -134,7 +134,7 @@ CountsLowers-more layout held held' page old new bounds begins len raised counts
   count_a_page = len ∙ counts.count_a_page;
   counts = λ p inside.
       let more = began layout held held' page p bounds begins in
-      omega (arith, more, counts.counts p inside, raised p (omega (arith, inside, counts.count_a_page)), count_on-most layout held' p, bounds.counts.few_pages);
+      omega (arith, more, counts.counts p inside, raised p (omega (arith, inside, counts.count_a_page)), count_on-most layout held' p, bounds.counts.page_limit);
 }
 
 pub CountsLowers-less : (layout : Layout) (held held' : ℕ → Bool) (page : ℕ) (old new : List ℕ) → InBounds layout → Begins layout held' held page → length new ≡ length old → ((p : ℕ) → p < length old → get_or new p 0 ≡ get_or old p 0 - count_in p (uppers_of layout page)) → CountsLowers layout held old → CountsLowers layout held' new
@@ -189,7 +189,7 @@ CountsLowers-opening layout counts none_there = record {
     zeros (suc n) (suc page) = zeros n page
 
 -- the root pages are those that are held
-pub held-opening : (layout : Layout) (q n : ℕ) → n ≡ layout.roots → q < layout.pages → is_held (opening layout) q ≡ nat_lt q n
+pub held-opening : (layout : Layout) (q n : ℕ) → n ≡ layout.roots → q < layout.pages → is_held (initial_state layout) q ≡ nat_lt q n
 held-opening layout q n end below =
     rw (root-resident layout q below, none-loading layout.pages q, end) (or-alone (nat_lt q layout.roots))
   where

@@ -13,7 +13,7 @@ use Rattle.pool_leaves.specs.Recent.{is_recent}
 use Rattle.pool_state.specs.Naming.{IsNamedAlone, IsUnnamed, names}
 use Rattle.pool_state.specs.Moved.{since_after, still_names}
 use Rattle.pool_state.specs.Shown.{shown}
-use Rattle.pool_rules.specs.State.{State, changed, is_held, is_resident}
+use Rattle.pool_rules.specs.State.{State, state_after_event, is_held, is_resident}
 use Rattle.pool_rules.specs.Victim.{is_pinned, named_of}
 
 -- whether the page stands in order at this count, among the recent places or the others
@@ -58,8 +58,8 @@ pub record Grows (old new : Leaves) : Type 0 where
 
 -- what becomes a leaf by the entry has its place
 pub record IsReady (layout : Layout) (frames : List Frame) (standing : Standing) (by : ℕ) (what : What) (leaves : Leaves) : Type 0 where
-  pub listed : IsListed layout (changed (shown standing frames) by what) leaves
-  pub placed : IsPlaced layout (changed (shown standing frames) by what) (still_names what standing.frames.holds)
+  pub listed : IsListed layout (state_after_event (shown standing frames) by what) leaves
+  pub placed : IsPlaced layout (state_after_event (shown standing frames) by what) (still_names what standing.frames.holds)
       (since_after what standing.entries standing.since.items) leaves
 
 -- the page was put into its place: parked where this moment covers it, and else in order

@@ -7,7 +7,7 @@ ghost use Rattle.pool_leaves.specs.Leaf.{Begins, CountsLowers, IsWider, Removes,
 ghost use Rattle.pool_rules.specs.Rules.{allows};
 ghost use Rattle.pool_state.specs.Shown.{shown};
 ghost use Rattle.pool_rules.specs.Sound.{IsSound};
-ghost use Rattle.pool_rules.specs.State.{State, changed, is_held, opening};
+ghost use Rattle.pool_rules.specs.State.{State, state_after_event, is_held, initial_state};
 ghost use Rattle.pool_rules.specs.Victim.{is_stood_on};
 
 use crate::recents::Recents;
@@ -90,7 +90,7 @@ impl Leaves {
     /// Before any entry: the root pages are resident.
     pub fn opening(alloc: Global, layout: &Plan) -> Result<Leaves, Memory>
         ensures lowers { InBounds layout.now →
-            IfOk result (λ leaves. CountsLowers layout.now (is_held (opening layout.now))
+            IfOk result (λ leaves. CountsLowers layout.now (is_held (initial_state layout.now))
             leaves.lowers.items) }
     {
         let mut leaves = Leaves {
@@ -153,7 +153,7 @@ impl Leaves {
         ensures lowers { (s : State) (journal : List Entry) (by : ℕ) → InBounds layout.now →
             IsSound layout.now s → allows layout.now s journal by what.now ≡ true →
             CountsLowers layout.now (is_held s) self.old.lowers.items →
-            CountsLowers layout.now (is_held (changed s by what.now)) self.new.lowers.items }
+            CountsLowers layout.now (is_held (state_after_event s by what.now)) self.new.lowers.items }
         ensures recent { self.new.recent ≡ self.old.recent }
         ensures order { self.new.order ≡ self.old.order }
         ensures parked { self.new.parked ≡ self.old.parked }

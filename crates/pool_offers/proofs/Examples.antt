@@ -6,7 +6,7 @@ use Rattle.geom_core.specs.declared.digests.Digest32.{Digest32}
 use Rattle.journal.specs.declared.entries.Spoilt.TheVariants.{Short}
 use Rattle.journal.specs.declared.entries.What.TheVariants.{Settle, Take, Install, Fail, Spoil, Starve, Full}
 use Rattle.journal.specs.declared.layouts.Layout.{Layout}
-use Rattle.pool_rules.specs.declared.wants.Want.{Want}
+use Rattle.pool_rules.specs.declared.want.Want.{Want}
 use Rattle.pool_offers.specs.Lower.{has_pair, pairs_of}
 use Rattle.pool_offers.specs.Offer.{has_ticket, is_ended, may_free, may_load, passes, passing}
 

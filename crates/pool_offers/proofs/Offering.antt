@@ -12,11 +12,11 @@ use Rattle.journal.specs.declared.entries.What.{What}
 use Rattle.journal.specs.declared.entries.What.TheVariants.{Pin, Settle, Ask, Narrow, Unpin, Take, Install, Fail, Spoil, Starve, Full, Stop}
 use Rattle.journal.specs.declared.layouts.Layout.{Layout}
 use Rattle.pool_offers.specs.declared.offers.Offers.{Offers}
-use Rattle.pool_rules.specs.declared.wants.Want.{Want}
+use Rattle.pool_rules.specs.declared.want.Want.{Want}
 use Rattle.pool_rules.specs.Next.{can_take}
 use Rattle.pool_offers.specs.Offer.{has_ticket, IsWider, HasPages, HasPassing, IsOffered, AreOffered, is_ended, may_free, may_load, ListsTouched}
 use Rattle.pool_state.specs.Queue.{pair_cmp, want_at, is_among, is_one_of, pages_queued, QueuesFrom, QueuesPages, IsNarrower}
-use Rattle.pool_rules.specs.State.{State, after, changed, is_loading, wants_after, wants_without}
+use Rattle.pool_rules.specs.State.{State, state_after, state_after_event, is_loading, wants_after, wants_without}
 use Rattle.journal.specs.Layout.{is_upper}
 use Rattle.pool_offers.specs.Lower.{HasLowers, has_pair}
 use Rattle.pool_state.proofs.Queued.{picked}
@@ -145,15 +145,15 @@ pub record Offers-for (layout : Layout) (s : State) (what : What) (count : ℕ) 
   pub taken : HasPages count (can_take layout s) (pages_queued what) new.takeable
   pub loads : HasPages count (is_loading s) (pages_queued what) new.loading
 
-pub AreOffered-entered : (layout : Layout) (s : State) (by : ℕ) (what : What) (count : ℕ) (queue queue' : Queue) (old new : Offers) (tickets : List (ℕ × ℕ)) → Offers-for layout s what count old new tickets → ListsTouched layout what queue tickets → QueuesFrom what count queue queue' → values queue' ≡ wants_after s what → AreOfPages queue' → AreOffered layout s queue old → AreOffered layout (changed s by what) queue' new
+pub AreOffered-entered : (layout : Layout) (s : State) (by : ℕ) (what : What) (count : ℕ) (queue queue' : Queue) (old new : Offers) (tickets : List (ℕ × ℕ)) → Offers-for layout s what count old new tickets → ListsTouched layout what queue tickets → QueuesFrom what count queue queue' → values queue' ≡ wants_after s what → AreOfPages queue' → AreOffered layout s queue old → AreOffered layout (state_after_event s by what) queue' new
 AreOffered-entered layout s by what count queue queue' old new tickets puts lists from is own offered = record {
   lowers = rw puts.lowers offered.lowers;
-  takeable = IsOffered-entered count (pages_queued what) (can_take layout s) (can_take layout (changed s by what)) (may_free layout what) (is_ended what) queue queue' old.takeable new.takeable tickets (can_take-unfreed layout s by what) (unfreed-queued layout what) puts.takeable puts.freed puts.taken lists.freed from (ended-unwanted what s queue' is) own offered.takeable;
-  loading = IsOffered-entered count (pages_queued what) (is_loading s) (is_loading (changed s by what)) (may_load what) (is_ended what) queue queue' old.loading new.loading tickets (λ q free on. loading-unloaded s by what q free) (unloaded-queued what) puts.loading puts.loaded puts.loads lists.loaded from (ended-unwanted what s queue' is) own offered.loading;
+  takeable = IsOffered-entered count (pages_queued what) (can_take layout s) (can_take layout (state_after_event s by what)) (may_free layout what) (is_ended what) queue queue' old.takeable new.takeable tickets (can_take-unfreed layout s by what) (unfreed-queued layout what) puts.takeable puts.freed puts.taken lists.freed from (ended-unwanted what s queue' is) own offered.takeable;
+  loading = IsOffered-entered count (pages_queued what) (is_loading s) (is_loading (state_after_event s by what)) (may_load what) (is_ended what) queue queue' old.loading new.loading tickets (λ q free on. loading-unloaded s by what q free) (unloaded-queued what) puts.loading puts.loaded puts.loads lists.loaded from (ended-unwanted what s queue' is) own offered.loading;
 }
 
 -- the count of entries says nothing of what can be taken
-pub AreOffered-after : (layout : Layout) (s : State) (e : Entry) (queue : Queue) (offers : Offers) → AreOffered layout (changed s e.by e.what) queue offers → AreOffered layout (after s e) queue offers
+pub AreOffered-after : (layout : Layout) (s : State) (e : Entry) (queue : Queue) (offers : Offers) → AreOffered layout (state_after_event s e.by e.what) queue offers → AreOffered layout (state_after s e) queue offers
 AreOffered-after layout s e queue offers offered = record {
   lowers = offered.lowers;
   takeable = offered.takeable;

@@ -8,7 +8,7 @@ use Rattle.journal.specs.declared.layouts.Layout.{Layout}
 use Rattle.journal.specs.Layout.{uppers_of}
 use Rattle.pool_rules.specs.Next.{can_take}
 use Rattle.pool_offers.specs.Offer.{may_free, may_load, is_ended}
-use Rattle.pool_rules.specs.State.{State, changed, is_resident, is_loading, is_held}
+use Rattle.pool_rules.specs.State.{State, state_after_event, is_resident, is_loading, is_held}
 use Rattle.pool_rules.proofs.Flags.{get_or-set_cases}
 use Rattle.pool_rules.proofs.Tests.{and-both, not-false}
 
@@ -73,31 +73,31 @@ still-loading loading page q h =
     (get_or-set_cases loading page q None None)
 
 -- a page that isn't the victim
-untaken : (layout : Layout) (s : State) (by : ℕ) (frame : Option ℕ) (page victim q : ℕ) → q ≢ victim → can_take layout (changed s by (Take frame page (Some victim))) q ≡ true → can_take layout s q ≡ true
+untaken : (layout : Layout) (s : State) (by : ℕ) (frame : Option ℕ) (page victim q : ℕ) → q ≢ victim → can_take layout (state_after_event s by (Take frame page (Some victim))) q ≡ true → can_take layout s q ≡ true
 untaken layout s by frame page victim q unlike =
-    let s' = changed s by (Take frame page (Some victim)) in
+    let s' = state_after_event s by (Take frame page (Some victim)) in
     can_take-from layout s s' q
     (free-from s s' q (λ h. sym (get_or-set_other s.resident victim q false false unlike) ∙ h) (unloaded s.loading page by q))
     (all-weaker (is_resident s') (is_resident s) (uppers_of layout q) (λ u here. ⊎_elim (λ same. sym same ∙ here) (λ gone. let no = gone.1 in cc) (get_or-set_cases s.resident victim u false false)))
 
 -- a page whose load doesn't end
-unended : (layout : Layout) (s : State) (by page q : ℕ) → q ≢ page → can_take layout (changed s by (Starve page)) q ≡ true → can_take layout s q ≡ true
+unended : (layout : Layout) (s : State) (by page q : ℕ) → q ≢ page → can_take layout (state_after_event s by (Starve page)) q ≡ true → can_take layout s q ≡ true
 unended layout s by page q other =
-    let s' = changed s by (Starve page) in
+    let s' = state_after_event s by (Starve page) in
     can_take-from layout s s' q (free-from s s' q (λ h. h) (λ h. sym (ap is_some (get_or-set_other s.loading page q None None other)) ∙ h)) (λ all. all)
 
-pub can_take-unfreed : (layout : Layout) (s : State) (by : ℕ) (what : What) (q : ℕ) → may_free layout what q ≡ false → is_ended what q ≡ false → can_take layout (changed s by what) q ≡ true → can_take layout s q ≡ true
+pub can_take-unfreed : (layout : Layout) (s : State) (by : ℕ) (what : What) (q : ℕ) → may_free layout what q ≡ false → is_ended what q ≡ false → can_take layout (state_after_event s by what) q ≡ true → can_take layout s q ≡ true
 can_take-unfreed layout s by (Pin f) q free on h = h
 can_take-unfreed layout s by (Settle f ps ms) q free on h = h
 can_take-unfreed layout s by (Ask f ps) q free on h = h
 can_take-unfreed layout s by (Narrow f ps) q free on h = h
 can_take-unfreed layout s by (Unpin f) q free on h = h
 can_take-unfreed layout s by (Take f page None) q free on h =
-    let s' = changed s by (Take f page None) in
+    let s' = state_after_event s by (Take f page None) in
     can_take-from layout s s' q (free-from s s' q (λ k. k) (unloaded s.loading page by q)) (λ all. all) h
 can_take-unfreed layout s by (Take f page (Some v)) q free on h = untaken layout s by f page v q (apart v q free) h
 can_take-unfreed layout s by (Install page digest) q free on h =
-    let s' = changed s by (Install page digest) in
+    let s' = state_after_event s by (Install page digest) in
     let other = apart page q on in
     can_take-from layout s s' q
     (free-from s s' q (λ k. sym (get_or-set_other s.resident page q true false other) ∙ k) (λ k. sym (ap is_some (get_or-set_other s.loading page q None None other)) ∙ k))
@@ -108,7 +108,7 @@ can_take-unfreed layout s by (Starve page) q free on h = unended layout s by pag
 can_take-unfreed layout s by (Full f) q free on h = h
 can_take-unfreed layout s by Stop q free on h = h
 
-pub loading-unloaded : (s : State) (by : ℕ) (what : What) (q : ℕ) → may_load what q ≡ false → is_loading (changed s by what) q ≡ true → is_loading s q ≡ true
+pub loading-unloaded : (s : State) (by : ℕ) (what : What) (q : ℕ) → may_load what q ≡ false → is_loading (state_after_event s by what) q ≡ true → is_loading s q ≡ true
 loading-unloaded s by (Pin f) q free h = h
 loading-unloaded s by (Settle f ps ms) q free h = h
 loading-unloaded s by (Ask f ps) q free h = h

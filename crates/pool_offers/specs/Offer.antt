@@ -8,7 +8,7 @@ use Rattle.journal.specs.declared.entries.What.{What}
 use Rattle.journal.specs.declared.entries.What.TheVariants.{Take, Install, Fail, Spoil, Starve}
 use Rattle.journal.specs.declared.layouts.Layout.{Layout}
 use Rattle.pool_offers.specs.declared.offers.Offers.{Offers}
-use Rattle.pool_rules.specs.declared.wants.Want.{Want}
+use Rattle.pool_rules.specs.declared.want.Want.{Want}
 use Rattle.journal.specs.Layout.{is_upper}
 use Rattle.pool_offers.specs.Lower.{HasLowers}
 use Rattle.pool_rules.specs.Next.{can_take, is_want_for}

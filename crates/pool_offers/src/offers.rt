@@ -9,7 +9,7 @@ ghost use Rattle.pool_state.specs.Queue.{IsQueued, is_among, pages_queued, want_
 ghost use Rattle.pool_state.specs.Shown.{shown};
 ghost use Rattle.pool_rules.specs.State.{State, is_loading};
 ghost use Rattle.journal.specs.declared.layouts.Layout.{Layout};
-ghost use Rattle.pool_rules.specs.declared.wants.Want.{Want};
+ghost use Rattle.pool_rules.specs.declared.want.Want.{Want};
 
 use crate::lowers::Lowers;
 use geom_core::Memory;

@@ -1,26 +1,26 @@
 -- What an allowed Take tells of its page and its victim.
 use Rattle.std.proofs.Common.{◌≡◌, ℕ, ◌<◌, List, [], ◌∷◌, Bool, true, false, cond, nat_lt, ◌==◌, ◌⊎◌, inl, inr, ⊎_elim, Option, Some, None, filter, fold, refl}
 use Rattle.std.proofs.lemmas.Bool.Decides.{Decides-ltb}
-use Rattle.pool_rules.specs.declared.wants.Want.{Want}
+use Rattle.pool_rules.specs.declared.want.Want.{Want}
 use Rattle.journal.specs.declared.layouts.Layout.{Layout}
-use Rattle.pool_rules.specs.declared.nexts.Next.TheVariants.{Take}
+use Rattle.pool_rules.specs.declared.next_load.Next.TheVariants.{Take}
 use Rattle.journal.specs.Layout.{page_numbers}
 use Rattle.pool_rules.specs.Next.{is_want_for, can_take, is_takeable, first_takeable, first_loading, next_with, next_at, busy_with, next_without, next_of, next_in, same_victim, is_take}
 use Rattle.pool_rules.specs.State.{State, held_count}
-use Rattle.pool_rules.specs.Victim.{is_evictable, named_of, staler, victim_for}
+use Rattle.pool_rules.specs.Victim.{is_evictable, named_of, less_recently_used, victim_for}
 use Rattle.pool_rules.proofs.Tests.{and-both, same-eqb, find-passes}
 
-staler-either : (s : State) (best : Option ℕ) (x v : ℕ) → staler s best x ≡ Some v → (best ≡ Some v) ⊎ (x ≡ v)
+staler-either : (s : State) (best : Option ℕ) (x v : ℕ) → less_recently_used s best x ≡ Some v → (best ≡ Some v) ⊎ (x ≡ v)
 staler-either s None x v h = inr cc
 staler-either s (Some b) x v h =
     elim (nat_lt (named_of s b) (named_of s x)) as (λ t. cond t (Some b) (Some x) ≡ Some v → (Some b ≡ Some v) ⊎ (x ≡ v)) [ true ↦ λ k. inl k | false ↦ λ k. inr cc ] h
 
 -- the victim among those that pass is the one before, or it passes
-victim-passes : (s : State) (test : ℕ → Bool) (xs : List ℕ) (best : Option ℕ) (v : ℕ) → fold (staler s) best (filter test xs) ≡ Some v → (best ≡ Some v) ⊎ (test v ≡ true)
+victim-passes : (s : State) (test : ℕ → Bool) (xs : List ℕ) (best : Option ℕ) (v : ℕ) → fold (less_recently_used s) best (filter test xs) ≡ Some v → (best ≡ Some v) ⊎ (test v ≡ true)
 victim-passes s test [] best v h = inl h
 victim-passes s test (x ∷ xs) best v h =
-    elim (test x) as (λ b. test x ≡ b → fold (staler s) best (cond b (x ∷ filter test xs) (filter test xs)) ≡ Some v → (best ≡ Some v) ⊎ (test v ≡ true)) [
-      | true ↦ λ e k. ⊎_elim (λ now. ⊎_elim (λ old. inl old) (λ same. inr cc) (staler-either s best x v now)) (λ passes. inr passes) (victim-passes s test xs (staler s best x) v k)
+    elim (test x) as (λ b. test x ≡ b → fold (less_recently_used s) best (cond b (x ∷ filter test xs) (filter test xs)) ≡ Some v → (best ≡ Some v) ⊎ (test v ≡ true)) [
+      | true ↦ λ e k. ⊎_elim (λ now. ⊎_elim (λ old. inl old) (λ same. inr cc) (staler-either s best x v now)) (λ passes. inr passes) (victim-passes s test xs (less_recently_used s best x) v k)
       | false ↦ λ e k. victim-passes s test xs best v k
     ] refl h
 

@@ -7,8 +7,8 @@ use Rattle.journal.specs.declared.entries.Spoilt.TheVariants.{Short}
 use Rattle.journal.specs.declared.entries.What.{What}
 use Rattle.journal.specs.declared.entries.What.TheVariants.{Pin, Settle, Ask, Narrow, Unpin, Take, Install, Fail, Spoil, Starve}
 use Rattle.journal.specs.declared.layouts.Layout.{Layout}
-use Rattle.pool_rules.specs.declared.nexts.Next.TheVariants as Next
-use Rattle.pool_rules.specs.declared.wants.Want.{Want}
+use Rattle.pool_rules.specs.declared.next_load.Next.TheVariants as Next
+use Rattle.pool_rules.specs.declared.want.Want.{Want}
 use Rattle.pool_rules.specs.Next.{next_after}
 use Rattle.pool_rules.specs.Rules.{first_refused}
 use Rattle.pool_rules.specs.State.{State, held_count, is_loading, is_resident, residency, state_of}

@@ -4,18 +4,18 @@ use Rattle.std.proofs.lemmas.List.Sums.{fold_push}
 use Rattle.journal.specs.declared.entries.Entry.{Entry}
 use Rattle.journal.specs.declared.layouts.Layout.{Layout}
 use Rattle.pool_rules.specs.Rules.{is_allowed, refused_or, first_refused_after, IsLegal}
-use Rattle.pool_rules.specs.State.{State, opening, after, state_of}
+use Rattle.pool_rules.specs.State.{State, initial_state, state_after, state_of}
 
-pub state_of-push : (layout : Layout) (journal : List Entry) (e : Entry) → state_of layout (journal ++ e ∷ []) ≡ after (state_of layout journal) e
-state_of-push layout journal e = fold_push after (opening layout) journal e
+pub state_of-push : (layout : Layout) (journal : List Entry) (e : Entry) → state_of layout (journal ++ e ∷ []) ≡ state_after (state_of layout journal) e
+state_of-push layout journal e = fold_push state_after (initial_state layout) journal e
 
 -- the count of entries is the journal's length
-entries-from : (journal : List Entry) (s : State) → (fold after s journal).entries ≡ s.entries + length journal
+entries-from : (journal : List Entry) (s : State) → (fold state_after s journal).entries ≡ s.entries + length journal
 entries-from [] s = omega arith
-entries-from (e ∷ journal) s = omega (arith, entries-from journal (after s e))
+entries-from (e ∷ journal) s = omega (arith, entries-from journal (state_after s e))
 
 pub entries-state_of : (layout : Layout) (journal : List Entry) → (state_of layout journal).entries ≡ length journal
-entries-state_of layout journal = omega (arith, entries-from journal (opening layout))
+entries-state_of layout journal = omega (arith, entries-from journal (initial_state layout))
 
 -- where the first of some entries is allowed, and the others after it, so are they all
 pub refused_or-none : (t : Bool) (n : ℕ) (later : Option ℕ) → refused_or t n later ≡ None → (t ≡ true) × (later ≡ None)

@@ -3,8 +3,8 @@ use Rattle.std.proofs.Common.{◌≡◌, ℕ, zero, suc, ◌==◌, List, [], ◌
 use Rattle.std.proofs.lemmas.Bool.Decides.{Decides-eqb}
 use Rattle.std.specs.List.{list_any}
 use Rattle.pool_rules.specs.Frame.{Frame}
-use Rattle.pool_rules.specs.declared.wants.Want.{Want}
-use Rattle.pool_rules.specs.State.{put, waits_for, with_installed, marked}
+use Rattle.pool_rules.specs.declared.want.Want.{Want}
+use Rattle.pool_rules.specs.State.{replace_frame, waits_for, frame_after_install, marked}
 use Rattle.pool_rules.proofs.Flags.{get_or-set_cases}
 use Rattle.pool_rules.proofs.Tests.{or-cases, or-left, or-right}
 
@@ -15,27 +15,27 @@ pinned_by page f = get_or f.pins page false
 abbrev pub pinned : ℕ → List Frame → Bool
 pinned page frames = list_any (pinned_by page) frames
 
-pub pinned-put : (page : ℕ) (f : Frame) (frames : List Frame) → pinned page (put f frames) ≡ true → (pinned_by page f ≡ true) ⊎ (pinned page frames ≡ true)
+pub pinned-put : (page : ℕ) (f : Frame) (frames : List Frame) → pinned page (replace_frame f frames) ≡ true → (pinned_by page f ≡ true) ⊎ (pinned page frames ≡ true)
 pinned-put page f [] h = ⊎_elim (λ here. inl here) (λ later. cc) (or-cases (pinned_by page f) false h)
 pinned-put page f (g ∷ frames) h =
-    elim (g.number == f.number) as (λ b. pinned page (cond b (f ∷ frames) (g ∷ put f frames)) ≡ true → (pinned_by page f ≡ true) ⊎ (pinned page (g ∷ frames) ≡ true)) [
+    elim (g.number == f.number) as (λ b. pinned page (cond b (f ∷ frames) (g ∷ replace_frame f frames)) ≡ true → (pinned_by page f ≡ true) ⊎ (pinned page (g ∷ frames) ≡ true)) [
       | true ↦ λ k. ⊎_elim (λ here. inl here) (λ later. inr (or-right (pinned_by page g) (pinned page frames) later)) (or-cases (pinned_by page f) (pinned page frames) k)
-      | false ↦ λ k. ⊎_elim (λ here. inr (or-left (pinned_by page g) (pinned page frames) here)) (λ later. ⊎_elim (λ new. inl new) (λ old. inr (or-right (pinned_by page g) (pinned page frames) old)) (pinned-put page f frames later)) (or-cases (pinned_by page g) (pinned page (put f frames)) k)
+      | false ↦ λ k. ⊎_elim (λ here. inr (or-left (pinned_by page g) (pinned page frames) here)) (λ later. ⊎_elim (λ new. inl new) (λ old. inr (or-right (pinned_by page g) (pinned page frames) old)) (pinned-put page f frames later)) (or-cases (pinned_by page g) (pinned page (replace_frame f frames)) k)
     ] h
 
-with_installed-pins : (wants : List Want) (installed page : ℕ) (f : Frame) → pinned_by page (with_installed wants installed f) ≡ true → (page ≡ installed) ⊎ (pinned_by page f ≡ true)
+with_installed-pins : (wants : List Want) (installed page : ℕ) (f : Frame) → pinned_by page (frame_after_install wants installed f) ≡ true → (page ≡ installed) ⊎ (pinned_by page f ≡ true)
 with_installed-pins wants installed page f h =
     elim (waits_for wants f.number installed) as (λ b. pinned_by page (cond b (record f { pins = set f.pins installed true }) f) ≡ true → (page ≡ installed) ⊎ (pinned_by page f ≡ true))
     [ true ↦ λ k. ⊎_elim (λ same. inr cc) (λ here. inl here.0) (get_or-set_cases f.pins installed page true false) | false ↦ λ k. inr k ] h
 
 -- after an Install the page installed is pinned besides, at most
-pub pinned-installed : (wants : List Want) (installed page : ℕ) (frames : List Frame) → pinned page (map (with_installed wants installed) frames) ≡ true → (page ≡ installed) ⊎ (pinned page frames ≡ true)
+pub pinned-installed : (wants : List Want) (installed page : ℕ) (frames : List Frame) → pinned page (map (frame_after_install wants installed) frames) ≡ true → (page ≡ installed) ⊎ (pinned page frames ≡ true)
 pinned-installed wants installed page [] h = cc
 pinned-installed wants installed page (f ∷ frames) h =
     ⊎_elim
     (λ here. ⊎_elim (λ same. inl same) (λ old. inr (or-left (pinned_by page f) (pinned page frames) old)) (with_installed-pins wants installed page f here))
     (λ later. ⊎_elim (λ same. inl same) (λ old. inr (or-right (pinned_by page f) (pinned page frames) old)) (pinned-installed wants installed page frames later))
-    (or-cases (pinned_by page (with_installed wants installed f)) (pinned page (map (with_installed wants installed) frames)) h)
+    (or-cases (pinned_by page (frame_after_install wants installed f)) (pinned page (map (frame_after_install wants installed) frames)) h)
 
 abbrev mark_all : List Bool → List ℕ → List Bool
 mark_all start pages = fold (λ marks page. set marks page true) start pages

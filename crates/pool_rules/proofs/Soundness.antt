@@ -9,13 +9,13 @@ use Rattle.journal.specs.declared.entries.Entry.{Entry}
 use Rattle.journal.specs.declared.entries.What.{What}
 use Rattle.journal.specs.declared.entries.What.TheVariants.{Pin, Settle, Ask, Narrow, Unpin, Take, Install, Fail, Spoil, Starve, Full, Stop}
 use Rattle.pool_rules.specs.Frame.{Frame}
-use Rattle.pool_rules.specs.declared.wants.Want.{Want}
+use Rattle.pool_rules.specs.declared.want.Want.{Want}
 use Rattle.journal.specs.declared.layouts.Layout.{Layout}
 use Rattle.journal.specs.Layout.{InBounds, page_numbers, uppers_of, is_upper, ascends}
 use Rattle.pool_rules.specs.Next.{can_take, is_take, next_in}
 use Rattle.pool_rules.specs.Rules.{allows, owns, pins, loads, is_maker, is_page_list, all_resident, any_resident, is_allowed, first_refused_after, IsLegal}
 use Rattle.pool_rules.specs.Sound.{IsSound}
-use Rattle.pool_rules.specs.State.{State, is_resident, is_loading, is_held, held_count, opening, after, state_of, put, marked, with_installed}
+use Rattle.pool_rules.specs.State.{State, is_resident, is_loading, is_held, held_count, initial_state, state_after, state_of, replace_frame, marked, frame_after_install}
 use Rattle.pool_rules.specs.Victim.{is_pinned, is_stood_on, is_evictable}
 use Rattle.pool_rules.proofs.Choices.{IsTaken, IsTaken-from_next}
 use Rattle.pool_rules.proofs.Flags.{get_or-set_cases, count_by-set_up, count_by-set_down, count_by-set_gone, place-within}
@@ -59,11 +59,11 @@ stood_on layout s page q below held upper =
 
 -- ---- the opening
 
-pub root-resident : (layout : Layout) (page : ℕ) → page < layout.pages → is_resident (opening layout) page ≡ nat_lt page layout.roots
+pub root-resident : (layout : Layout) (page : ℕ) → page < layout.pages → is_resident (initial_state layout) page ≡ nat_lt page layout.roots
 root-resident layout page below =
     get_or-map-range_with_len (λ p. nat_lt p layout.roots) 0 layout.pages page page false below (omega arith)
 
-pub resident-root : (layout : Layout) (page : ℕ) → is_resident (opening layout) page ≡ true → page < layout.roots
+pub resident-root : (layout : Layout) (page : ℕ) → is_resident (initial_state layout) page ≡ true → page < layout.roots
 resident-root layout page h =
     let flags = map (λ p. nat_lt p layout.roots) (page_numbers layout) in
     let below : page < layout.pages = rw length-map-range_with_len at (place-within (λ b. b) flags page false refl h) in
@@ -108,7 +108,7 @@ upper-below : (layout : Layout) (page upper : ℕ) → InBounds layout → page 
 upper-below layout page upper bounds below h =
     (Decides-ltb upper page).0 (all-at_any (λ u. nat_lt u page) (uppers_of layout page) upper (bounds.uppers page (omega (arith, below, bounds.list_a_page))).1 h)
 
-opening-uppers : (layout : Layout) (page upper : ℕ) → InBounds layout → is_held (opening layout) page ≡ true → is_upper layout upper page ≡ true → is_resident (opening layout) upper ≡ true
+opening-uppers : (layout : Layout) (page upper : ℕ) → InBounds layout → is_held (initial_state layout) page ≡ true → is_upper layout upper page ≡ true → is_resident (initial_state layout) upper ≡ true
 opening-uppers layout page upper bounds held h =
     ⊎_elim
     (λ resident.
@@ -116,9 +116,9 @@ opening-uppers layout page upper bounds held h =
     let below = upper-below layout page upper bounds (omega (arith, bounds.counts.roots_are_pages)) h in
     root-resident layout upper (omega (arith, bounds.counts.roots_are_pages)) ∙ (Decides-ltb upper layout.roots).1 (omega arith))
     (λ loading. let none = none-loading layout.pages page in cc)
-    (held-cases (is_resident (opening layout) page) (is_loading (opening layout) page) held)
+    (held-cases (is_resident (initial_state layout) page) (is_loading (initial_state layout) page) held)
 
-pub IsSound-opening : (layout : Layout) → InBounds layout → IsSound layout (opening layout)
+pub IsSound-opening : (layout : Layout) → InBounds layout → IsSound layout (initial_state layout)
 IsSound-opening layout bounds = record {
   roots_stay = λ page root. root-resident layout page (omega (arith, bounds.counts.roots_are_pages)) ∙ (Decides-ltb page layout.roots).1 root;
   uppers_stay = λ page upper held h. opening-uppers layout page upper bounds held h;
@@ -273,7 +273,7 @@ now-resident resident installed page h =
 
 -- an Install of a page that is being loaded
 installed : (layout : Layout) (s : State) (page : ℕ) (wants : List Want) (named : List ℕ) (entries : ℕ) → IsSound layout s → is_loading s page ≡ true →
-    IsSound layout (record { resident = set s.resident page true; loading = set s.loading page None; frames = map (with_installed s.wants page) s.frames; wants = wants; named = named; stopped = s.stopped; entries = entries })
+    IsSound layout (record { resident = set s.resident page true; loading = set s.loading page None; frames = map (frame_after_install s.wants page) s.frames; wants = wants; named = named; stopped = s.stopped; entries = entries })
 installed layout s page wants named entries sound loads = record {
   roots_stay = λ p root. stays-resident s.resident page p (sound.roots_stay p root);
   uppers_stay = λ p upper held h. stays-resident s.resident page upper (sound.uppers_stay p upper (was-held p held) h);
@@ -315,7 +315,7 @@ pub loads-loading : (s : State) (by page : ℕ) → loads s by page ≡ true →
 loads-loading s by page h = maker-loading (get_or s.loading page None) by h
 
 -- the pages of a Settle are resident, so its pins are
-settled-pins : (layout : Layout) (s : State) (f : Frame) (pages : List ℕ) → IsSound layout s → f.pins ≡ marked (length s.resident) pages → all_resident s pages ≡ true → (page : ℕ) → pinned page (put f s.frames) ≡ true → is_resident s page ≡ true
+settled-pins : (layout : Layout) (s : State) (f : Frame) (pages : List ℕ) → IsSound layout s → f.pins ≡ marked (length s.resident) pages → all_resident s pages ≡ true → (page : ℕ) → pinned page (replace_frame f s.frames) ≡ true → is_resident s page ≡ true
 settled-pins layout s f pages sound pins all page h =
     ⊎_elim
     (λ new. all-at_any (is_resident s) pages page all (marked-listed (length s.resident) pages page (rw pins at new)))
@@ -323,7 +323,7 @@ settled-pins layout s f pages sound pins all page h =
     (pinned-put page f s.frames h)
 
 -- the pages of a Narrow are pinned, so they are resident
-narrowed-pins : (layout : Layout) (s : State) (f : Frame) (pages : List ℕ) → IsSound layout s → f.pins ≡ marked (length s.resident) pages → list_all (pins s f.number) pages ≡ true → (page : ℕ) → pinned page (put f s.frames) ≡ true → is_resident s page ≡ true
+narrowed-pins : (layout : Layout) (s : State) (f : Frame) (pages : List ℕ) → IsSound layout s → f.pins ≡ marked (length s.resident) pages → list_all (pins s f.number) pages ≡ true → (page : ℕ) → pinned page (replace_frame f s.frames) ≡ true → is_resident s page ≡ true
 narrowed-pins layout s f pages sound own all page h =
     ⊎_elim
     (λ new.
@@ -333,12 +333,12 @@ narrowed-pins layout s f pages sound own all page h =
     (λ old. sound.pins_stay page old)
     (pinned-put page f s.frames h)
 
-pinned-now : (layout : Layout) (s : State) (by frame : ℕ) → IsSound layout s → (page : ℕ) → pinned page (put (record { number = frame; owner = by; pins = s.resident }) s.frames) ≡ true → is_resident s page ≡ true
+pinned-now : (layout : Layout) (s : State) (by frame : ℕ) → IsSound layout s → (page : ℕ) → pinned page (replace_frame (record { number = frame; owner = by; pins = s.resident }) s.frames) ≡ true → is_resident s page ≡ true
 pinned-now layout s by frame sound page h =
     ⊎_elim (λ new. new) (λ old. sound.pins_stay page old) (pinned-put page (record { number = frame; owner = by; pins = s.resident }) s.frames h)
 
 -- a Take, whichever its frame
-taken : (layout : Layout) (s : State) (by : ℕ) (frame : Option ℕ) (page : ℕ) (victim : Option ℕ) → InBounds layout → IsSound layout s → IsTaken layout s page victim → IsSound layout (after s (record { by = by; what = Take frame page victim }))
+taken : (layout : Layout) (s : State) (by : ℕ) (frame : Option ℕ) (page : ℕ) (victim : Option ℕ) → InBounds layout → IsSound layout s → IsTaken layout s page victim → IsSound layout (state_after s (record { by = by; what = Take frame page victim }))
 taken layout s by frame page None bounds sound told =
     ⊎_elim (λ free. taken-free layout s page by (s.entries + 1) sound told.takeable free.1) (λ evicts. cc) told.room
 taken layout s by frame page (Some victim) bounds sound told =
@@ -350,7 +350,7 @@ taken layout s by frame page (Some victim) bounds sound told =
     told.room
 
 -- each allowed entry leaves a sound state sound
-pub IsSound-after : (layout : Layout) (s : State) (journal : List Entry) (by : ℕ) (what : What) → InBounds layout → IsSound layout s → allows layout s journal by what ≡ true → IsSound layout (after s (record { by = by; what = what }))
+pub IsSound-after : (layout : Layout) (s : State) (journal : List Entry) (by : ℕ) (what : What) → InBounds layout → IsSound layout s → allows layout s journal by what ≡ true → IsSound layout (state_after s (record { by = by; what = what }))
 IsSound-after layout s journal by (Pin frame) bounds sound h =
     repinned layout s _ s.wants s.named s.stopped (s.entries + 1) sound (pinned-now layout s by frame sound)
 IsSound-after layout s journal by (Settle frame pages missing) bounds sound h =

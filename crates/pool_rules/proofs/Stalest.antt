@@ -5,28 +5,28 @@ use Rattle.std.proofs.lemmas.Bool.{cases_lt}
 use Rattle.std.proofs.lemmas.Bool.Decides.{Decides-ltb, nat_tests}
 use Rattle.journal.specs.declared.layouts.Layout.{Layout}
 use Rattle.pool_rules.specs.State.{State}
-use Rattle.pool_rules.specs.Victim.{named_of, staler, is_evictable, victim_for, IsStaler, IsVictim, HasNoVictim}
+use Rattle.pool_rules.specs.Victim.{named_of, less_recently_used, is_evictable, victim_for, IsLessRecent, IsVictim, HasNoVictim}
 use Rattle.pool_rules.proofs.Ranges.{fold-filter_more}
 
 -- the best of the pages below n that pass
 abbrev best : State → (ℕ → Bool) → ℕ → Option ℕ
-best s test n = fold (staler s) None (filter test (range_with_len 0 n))
+best s test n = fold (less_recently_used s) None (filter test (range_with_len 0 n))
 
 abbrev IsBest : State → (ℕ → Bool) → ℕ → Option ℕ → Type 0
 IsBest s test n None = (q : ℕ) → q < n → test q ≡ true → ⊥
-IsBest s test n (Some v) = (test v ≡ true) × ((q : ℕ) → q < n → test q ≡ true → IsStaler s v q)
+IsBest s test n (Some v) = (test v ≡ true) × ((q : ℕ) → q < n → test q ≡ true → IsLessRecent s v q)
 
 -- a number below n + 1 is below n or is n
 last-or-below : (q n : ℕ) → q < suc n → (q < n) ⊎ (q ≡ n)
 last-or-below q n h = ⊎_elim (λ lt. inl lt) (λ ge. inr (omega arith)) (cases_lt q n)
 
 -- the first of two stays the first of what the second came before
-staler-through : (s : State) (v n q : ℕ) → named_of s n ≤ named_of s v → q < n → IsStaler s v q → IsStaler s n q
+staler-through : (s : State) (v n q : ℕ) → named_of s n ≤ named_of s v → q < n → IsLessRecent s v q → IsLessRecent s n q
 staler-through s v n q h below (inl less) = inl (omega arith)
 staler-through s v n q h below (inr (same, no_later)) =
     ⊎_elim (λ less. inl less) (λ ge. inr (omega arith, omega arith)) (cases_lt (named_of s n) (named_of s q))
 
-with-last : (s : State) (test : ℕ → Bool) (n : ℕ) (before : Option ℕ) → test n ≡ true → IsBest s test n before → IsBest s test (suc n) (staler s before n)
+with-last : (s : State) (test : ℕ → Bool) (n : ℕ) (before : Option ℕ) → test n ≡ true → IsBest s test n before → IsBest s test (suc n) (less_recently_used s before n)
 with-last s test n None passes none =
     (passes, λ q below h. ⊎_elim (λ lt. absurd (none q lt h)) (λ same. rw same (inr (refl, omega arith))) (last-or-below q n below))
 with-last s test n (Some v) passes old =
@@ -43,7 +43,7 @@ without-last s test n (Some v) fails old =
 is-best : (s : State) (test : ℕ → Bool) (n : ℕ) → IsBest s test n (best s test n)
 is-best s test zero = λ q below h. omega arith
 is-best s test (suc n) =
-    rw (fold-filter_more (staler s) test None n) (elim (test n) as (λ b. test n ≡ b → IsBest s test (suc n) (cond b (staler s (best s test n) n) (best s test n)))
+    rw (fold-filter_more (less_recently_used s) test None n) (elim (test n) as (λ b. test n ≡ b → IsBest s test (suc n) (cond b (less_recently_used s (best s test n) n) (best s test n)))
     [ true ↦ λ passes. with-last s test n (best s test n) passes (is-best s test n) | false ↦ λ fails. without-last s test n (best s test n) fails (is-best s test n) ] refl)
 
 pub IsVictim-from_some : (layout : Layout) (s : State) (page victim : ℕ) → victim_for layout s page ≡ Some victim → IsVictim layout s page victim

@@ -1,4 +1,4 @@
--- A live frame: pinned, and not yet unpinned.
+-- A live frame: it has a Pin and no Unpin.
 use Rattle.std.specs.Prelude.{ℕ, Bool, List}
 
 pub record Frame : Type 0 where

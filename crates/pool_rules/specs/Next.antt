@@ -2,15 +2,15 @@
 use Rattle.std.specs.Prelude.{◌==◌, ◌&&◌, ℕ, List, Bool, true, false, not, find, nat_lt, if◌then◌else◌, Option, None, Some}
 use Rattle.std.specs.List.{list_all}
 use Rattle.journal.specs.declared.entries.Entry.{Entry}
-use Rattle.pool_rules.specs.declared.wants.Want.{Want}
+use Rattle.pool_rules.specs.declared.want.Want.{Want}
 use Rattle.journal.specs.declared.layouts.Layout.{Layout}
-use Rattle.pool_rules.specs.declared.nexts.Next.{Next}
-use Rattle.pool_rules.specs.declared.nexts.Next.TheVariants.{Take, Full, Busy, Nothing}
+use Rattle.pool_rules.specs.declared.next_load.Next.{Next}
+use Rattle.pool_rules.specs.declared.next_load.Next.TheVariants.{Take, Full, Busy, Nothing}
 use Rattle.journal.specs.Layout.{uppers_of}
 use Rattle.pool_rules.specs.State.{State, is_resident, is_loading, is_held, held_count, state_of}
 use Rattle.pool_rules.specs.Victim.{victim_for}
 
--- whether it is a want of this frame, or of any where none is named
+-- whether it is a want of this frame; of any frame if none is given
 abbrev pub is_want_for : Option ℕ → Want → Bool
 is_want_for None want = true
 is_want_for (Some frame) want = want.frame == frame
@@ -46,7 +46,7 @@ abbrev pub busy_with : Option Want → Next
 busy_with None = Nothing
 busy_with (Some want) = Busy want.page
 
--- where no page can be taken, a frame that is named learns of its first want that is being loaded
+-- if no page can be taken, and a frame is given, the answer is the frame's first want that is being loaded
 abbrev pub next_without : State → Option ℕ → Next
 next_without s None = Nothing
 next_without s (Some frame) = busy_with (first_loading s frame)
@@ -62,7 +62,7 @@ next_in layout s frame = next_of layout s frame (first_takeable layout s frame)
 abbrev pub next_after : Layout → List Entry → Option ℕ → Next
 next_after layout journal frame = next_in layout (state_of layout journal) frame
 
--- whether two may-be numbers are the same
+-- whether both are none, or both the same number
 abbrev pub same_victim : Option ℕ → Option ℕ → Bool
 same_victim None None = true
 same_victim (Some a) (Some b) = a == b

@@ -1,7 +1,8 @@
--- Which entry may stand next in a journal, and which journals are legal.
+-- Which entry is allowed next in a journal, and which journals are legal.
 use Rattle.std.specs.Prelude.{◌≡◌, ◌==◌, ◌-◌, ◌^◌, ◌&&◌, ◌||◌, ℕ, Bool, true, false, not, List, [], ◌∷◌, ◌++◌, length, fold, nat_eq, nat_lt, nat_le, Option, None, Some, slice_index_or}
 use Rattle.std.specs.List.{list_all, list_any}
 use lib.Pointwise.{pointwise}
+use Rattle.geom_core.specs.declared.limits.TheConstants.{PAGE_BYTES}
 use Rattle.journal.specs.declared.entries.Entry.{Entry}
 use Rattle.journal.specs.declared.entries.Spoilt.{Spoilt}
 use Rattle.journal.specs.declared.entries.Spoilt.TheVariants.{Digest, Grammar, Short}
@@ -61,17 +62,18 @@ all_resident s pages = list_all (is_resident s) pages
 abbrev pub any_resident : State → List ℕ → Bool
 any_resident s pages = list_any (is_resident s) pages
 
--- the count of faults rose, or stays at its greatest
+-- the count of faults rose, or was and is at its maximum
 abbrev pub rose : ℕ → ℕ → Bool
 rose before after = nat_lt before after || ((before == 2 ^ 64 - 1) && (after == 2 ^ 64 - 1))
 
--- whether the bytes were wrong in the way that is told
+-- whether the bytes were wrong as the entry says: two different digests; one of the four rules of the grammar
+-- of pages, at an offset within the page; or fewer bytes than a page has
 abbrev pub is_wrong : Spoilt → Bool
 is_wrong (Digest stated found) = not (pointwise nat_eq stated.bytes found.bytes)
-is_wrong (Grammar rule offset) = nat_le 1 rule && (nat_le rule 4 && nat_lt offset 65536)
-is_wrong (Short got) = nat_lt got 65536
+is_wrong (Grammar rule offset) = nat_le 1 rule && (nat_le rule 4 && nat_lt offset PAGE_BYTES)
+is_wrong (Short got) = nat_lt got PAGE_BYTES
 
--- the table of entries: whether a maker may enter this after the journal, which leaves the state s
+-- the table of entries: whether a maker may append this to the journal, whose state is s
 abbrev pub allows : Layout → State → List Entry → ℕ → What → Bool
 allows layout s journal by (Pin frame) = owns s by frame || not (has_entry frame journal)
 allows layout s journal by (Settle frame pages missing) =
@@ -96,7 +98,7 @@ allows layout s journal by (Full frame) =
     not s.stopped && (owns s by frame && is_full (next_in layout s (Some frame)))
 allows layout s journal by Stop = not s.stopped
 
--- whether the entry may stand next after the journal
+-- whether the entry is allowed next after the journal
 abbrev pub is_allowed : Layout → List Entry → Entry → Bool
 is_allowed layout journal entry = allows layout (state_of layout journal) journal entry.by entry.what
 
@@ -104,7 +106,7 @@ abbrev pub refused_or : Bool → ℕ → Option ℕ → Option ℕ
 refused_or true place later = later
 refused_or false place later = Some place
 
--- the place of the first of these entries that isn't allowed after those before it
+-- the index of the first of these entries that isn't allowed after those before it
 abbrev pub first_refused_after : Layout → List Entry → List Entry → Option ℕ
 first_refused_after layout before [] = None
 first_refused_after layout before (entry ∷ entries) =

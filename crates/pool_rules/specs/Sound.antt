@@ -8,7 +8,7 @@ use Rattle.pool_rules.specs.Victim.{is_pinned}
 pub record IsSound (layout : Layout) (s : State) : Type 0 where
   -- root pages are resident
   pub roots_stay : (page : ℕ) → page < layout.roots → IsTrue (is_resident s page)
-  -- each resident or loading page has its uppers resident
+  -- the uppers of each resident or loading page are resident
   pub uppers_stay : (page upper : ℕ) → IsTrue (is_held s page) → IsTrue (is_upper layout upper page) →
       IsTrue (is_resident s upper)
   -- no page is both resident and being loaded
@@ -17,6 +17,6 @@ pub record IsSound (layout : Layout) (s : State) : Type 0 where
   pub within_slots : held_count s ≤ layout.slots
   -- each pinned page is resident
   pub pins_stay : (page : ℕ) → IsTrue (is_pinned s page) → IsTrue (is_resident s page)
-  -- the lists by page have an item for each page
+  -- the lists by page have one item for each page
   pub flag_a_page : length s.resident ≡ layout.pages
   pub maker_a_page : length s.loading ≡ layout.pages

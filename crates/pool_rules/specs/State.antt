@@ -1,11 +1,11 @@
--- How the pool stands after a journal: a fold over its entries, from the oldest on.
+-- The state of the pool after a journal: a fold over its entries, the oldest first.
 use Rattle.std.specs.Prelude.{◌==◌, ◌+◌, ◌&&◌, ◌||◌, ℕ, Bool, true, false, not, List, [], ◌∷◌, ◌++◌, length, map, filter, fold, nat_lt, replicate, if◌then◌else◌, Option, None, Some, is_some, count_by, slice_set, slice_index_or}
 use Rattle.std.specs.List.{list_any}
 use Rattle.journal.specs.declared.entries.Entry.{Entry}
 use Rattle.journal.specs.declared.entries.What.{What}
 use Rattle.journal.specs.declared.entries.What.TheVariants.{Pin, Settle, Ask, Narrow, Unpin, Take, Install, Fail, Spoil, Starve, Stop}
 use Rattle.pool_rules.specs.Frame.{Frame}
-use Rattle.pool_rules.specs.declared.wants.Want.{Want}
+use Rattle.pool_rules.specs.declared.want.Want.{Want}
 use Rattle.journal.specs.declared.layouts.Layout.{Layout}
 use Rattle.journal.specs.Layout.{page_numbers}
 
@@ -19,9 +19,10 @@ pub record State : Type 0 where
   pub frames : List Frame
   -- the pages that frames want, the oldest want first
   pub wants : List Want
-  -- by page: how many entries there were when one last named it, that one with them; 0 where none did
+  -- by page: when it was last used, as the number of entries up to and including the last Settle, Narrow or
+  -- Install that has it; 0 if none has
   pub named : List ℕ
-  -- whether a Stop stands
+  -- whether the journal has a Stop
   pub stopped : Bool
   -- how many entries there are
   pub entries : ℕ
@@ -53,8 +54,8 @@ abbrev pub marked : ℕ → List ℕ → List Bool
 marked pages numbers = fold (λ marks page. slice_set marks page true) (replicate pages false) numbers
 
 -- before any entry the root pages are resident
-abbrev pub opening : Layout → State
-opening layout = record {
+abbrev pub initial_state : Layout → State
+initial_state layout = record {
   resident = map (λ page. nat_lt page layout.roots) (page_numbers layout);
   loading = replicate layout.pages None;
   frames = [];
@@ -79,27 +80,27 @@ loading_after by (Spoil page why) loading = slice_set loading page None
 loading_after by (Starve page) loading = slice_set loading page None
 loading_after by _ loading = loading
 
--- the frame in the place of the one of its number, or at the end
-abbrev pub put : Frame → List Frame → List Frame
-put frame [] = frame ∷ []
-put frame (f ∷ frames) = if f.number == frame.number then frame ∷ frames else f ∷ put frame frames
+-- the frames with the one of its number replaced by this frame, or this frame appended
+abbrev pub replace_frame : Frame → List Frame → List Frame
+replace_frame frame [] = frame ∷ []
+replace_frame frame (f ∷ frames) = if f.number == frame.number then frame ∷ frames else f ∷ replace_frame frame frames
 
--- the frame, which also pins the page where it waits for it
-abbrev pub with_installed : List Want → ℕ → Frame → Frame
-with_installed wants page f =
+-- the frame after the page is installed: it also pins the page if it waits for it
+abbrev pub frame_after_install : List Want → ℕ → Frame → Frame
+frame_after_install wants page f =
     if waits_for wants f.number page then record f { pins = slice_set f.pins page true } else f
 
 -- Live frames and their pins: Pin makes its frame live, owned by the maker, and pins what is resident;
 -- Settle and Narrow, which only the owner makes, pin their pages instead; Unpin ends the frame
 abbrev pub frames_after : State → ℕ → What → List Frame
 frames_after s by (Pin frame) =
-    put (record { number = frame; owner = by; pins = s.resident }) s.frames
+    replace_frame (record { number = frame; owner = by; pins = s.resident }) s.frames
 frames_after s by (Settle frame pages missing) =
-    put (record { number = frame; owner = by; pins = marked (length s.resident) pages }) s.frames
+    replace_frame (record { number = frame; owner = by; pins = marked (length s.resident) pages }) s.frames
 frames_after s by (Narrow frame pages) =
-    put (record { number = frame; owner = by; pins = marked (length s.resident) pages }) s.frames
+    replace_frame (record { number = frame; owner = by; pins = marked (length s.resident) pages }) s.frames
 frames_after s by (Unpin frame) = filter (λ f. not (f.number == frame)) s.frames
-frames_after s by (Install page digest) = map (with_installed s.wants page) s.frames
+frames_after s by (Install page digest) = map (frame_after_install s.wants page) s.frames
 frames_after s by _ = s.frames
 
 -- the wants of other frames than this one that are live
@@ -113,7 +114,7 @@ wants_of frame settled pages = map (λ page. record { frame = frame; page = page
 abbrev pub wants_without : ℕ → List Want → List Want
 wants_without page wants = filter (λ w. not (w.page == page)) wants
 
--- Wants: Settle and Ask put theirs behind those of the other live frames, the end of a load removes
+-- Wants: Settle and Ask append theirs after those of the other live frames, the end of a load removes
 -- all wants of its page
 abbrev pub wants_after : State → What → List Want
 wants_after s (Settle frame pages missing) = wants_of_others s frame ++ wants_of frame true missing
@@ -127,7 +128,7 @@ wants_after s _ = s.wants
 abbrev pub name_at : ℕ → List ℕ → List ℕ → List ℕ
 name_at place pages named = fold (λ all page. slice_set all page place) named pages
 
--- Named: Settle and Narrow name their pages, Install its page
+-- Last use: Settle and Narrow use their pages, Install uses its page
 abbrev pub named_after : State → What → List ℕ
 named_after s (Settle frame pages missing) = name_at (s.entries + 1) pages s.named
 named_after s (Narrow frame pages) = name_at (s.entries + 1) pages s.named
@@ -138,9 +139,9 @@ abbrev pub stopped_after : What → Bool → Bool
 stopped_after Stop stopped = true
 stopped_after _ stopped = stopped
 
--- what an entry changes, but for the count of entries
-abbrev pub changed : State → ℕ → What → State
-changed s by what = record {
+-- the state after an event, but for the count of entries
+abbrev pub state_after_event : State → ℕ → What → State
+state_after_event s by what = record {
   resident = resident_after what s.resident;
   loading = loading_after by what s.loading;
   frames = frames_after s by what;
@@ -150,13 +151,13 @@ changed s by what = record {
   entries = s.entries;
 }
 
--- what an entry makes of the state
-abbrev pub after : State → Entry → State
-after s entry = record (changed s entry.by entry.what) { entries = s.entries + 1 }
+-- the state after an entry
+abbrev pub state_after : State → Entry → State
+state_after s entry = record (state_after_event s entry.by entry.what) { entries = s.entries + 1 }
 
 -- the state after a journal
 abbrev pub state_of : Layout → List Entry → State
-state_of layout journal = fold after (opening layout) journal
+state_of layout journal = fold state_after (initial_state layout) journal
 
 -- the residency after a journal: the numbers of the resident pages, ascending
 abbrev pub residency : Layout → List Entry → List ℕ

@@ -1,13 +1,14 @@
 //! The rules of the page pool, as definitions over its journal, and the laws that follow from them.
 //!
-//! What is resident, being loaded, pinned and wanted is a fold of the journal (`specs/State`), and so is
-//! what a loader may do next (`specs/Next`), which page is evicted (`specs/Victim`) and which entry may
-//! stand next (`specs/Rules`). The crate has no machine: `residency` keeps these rules.
+//! The journal is an event log, and the pool's state is a fold of it (`specs/State`): which pages are
+//! resident, loading, pinned and wanted. What a loader may do next (`specs/Next`), which page is evicted
+//! (`specs/Victim`, the least recently used) and which entry is allowed next (`specs/Rules`) are functions
+//! of that state. The crate has no code that runs: `residency` computes what is defined here.
 #![tactic(auto)]
 
 pub mod laws;
-mod nexts;
-mod wants;
+mod next_load;
+mod want;
 
-pub use nexts::Next;
-pub use wants::Want;
+pub use next_load::Next;
+pub use want::Want;

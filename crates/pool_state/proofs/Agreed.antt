@@ -10,13 +10,13 @@ use Rattle.pool_state.specs.Agreement.{Agrees, Stands}
 use Rattle.pool_state.specs.declared.frames.Frames.{Frames}
 use Rattle.pool_state.specs.declared.frames.Hold.{Hold}
 use Rattle.pool_state.specs.declared.standings.Standing.{Standing}
-use Rattle.pool_rules.specs.declared.wants.Want.{Want}
+use Rattle.pool_rules.specs.declared.want.Want.{Want}
 use Rattle.pool_state.specs.declared.wants.Wants.{Wants}
 use Rattle.pool_rules.specs.Frame.{Frame}
 use Rattle.pool_state.specs.Holding.{IsCounted, IsHold, AreHold, IsIndexed, NamesAt, NamesAll, frame_at, covers, pins_of, moment_in, moment_of}
 use Rattle.pool_state.specs.Queue.{IsQueued, IsOwned, IsAsBefore, stays, want_at}
 use Rattle.pool_state.specs.Shown.{shown}
-use Rattle.pool_rules.specs.State.{State, put, name_at, marked, waits_for, wants_of_others, is_live, with_installed}
+use Rattle.pool_rules.specs.State.{State, replace_frame, name_at, marked, waits_for, wants_of_others, is_live, frame_after_install}
 use Rattle.pool_rules.specs.Victim.{is_pinned}
 use Rattle.pool_state.proofs.Counts.{is_at-eqb}
 use Rattle.std.proofs.lemmas.List.{length-replicate}
@@ -85,7 +85,7 @@ named-put key n w hold h =
     elim (is_at (nat_cmp key) n) as (λ b. cond b (Some w) h ≡ Some hold → (hold ≡ w) ⊎ (h ≡ Some hold)) [ true ↦ λ e. inl cc | false ↦ λ e. inr e ]
 
 pub Agrees-put : (k k' : ℕ) (frames : List Frame) (x y : Standing) (f : Frame) (w : Hold) → Agrees k frames x → y.places ≡ x.places → y.since ≡ x.since → ((n : ℕ) → get nat_cmp y.frames.holds n ≡ cond (is_at (nat_cmp f.number) n) (Some w) (get nat_cmp x.frames.holds n)) → IsIndexed y.frames → length y.frames.counts.items ≡ length x.frames.counts.items →
-    IsHold x.places.resident.items x.since.items f w → ((page : ℕ) → has_page w.pages page ≡ true → get_or x.places.resident.items page false ≡ true) → ((m : ℕ) → IsSome (get nat_cmp y.frames.moments m) → m < k') → k ≤ k' → IsQueued k' y.wants → IsOwned y.frames.holds y.wants → Agrees k' (put f frames) y
+    IsHold x.places.resident.items x.since.items f w → ((page : ℕ) → has_page w.pages page ≡ true → get_or x.places.resident.items page false ≡ true) → ((m : ℕ) → IsSome (get nat_cmp y.frames.moments m) → m < k') → k ≤ k' → IsQueued k' y.wants → IsOwned y.frames.holds y.wants → Agrees k' (replace_frame f frames) y
 Agrees-put k k' frames x y f w agrees places since at indexed len is named earlier le queued owned = record {
   queued = queued;
   owned = owned;
@@ -331,7 +331,7 @@ abbrev pub shows-with : Standing → List Frame → Frame → List ℕ → State
 shows-with x frames f named = record {
   resident = x.places.resident.items;
   loading = x.places.loading;
-  frames = put f frames;
+  frames = replace_frame f frames;
   wants = values x.wants.queue;
   named = named;
   stopped = x.stopped;
@@ -421,7 +421,7 @@ hold-other resident since k page f old new is was names = record {
   ] refl;
 }
 
-hold-installed : (resident : List Bool) (since : List ℕ) (k page n : ℕ) (wants : List Want) (o : Option Frame) (old new : Option Hold) → ((f : Frame) → o ≡ Some f → f.number ≡ n) → ((hold : Hold) → old ≡ Some hold → IsInstalled resident since k page hold) → AreHold resident since o old → NamesAt old new (waits_for wants n page) page true → AreHold (set resident page true) (set since page (k + 1)) (option_map (with_installed wants page) o) new
+hold-installed : (resident : List Bool) (since : List ℕ) (k page n : ℕ) (wants : List Want) (o : Option Frame) (old new : Option Hold) → ((f : Frame) → o ≡ Some f → f.number ≡ n) → ((hold : Hold) → old ≡ Some hold → IsInstalled resident since k page hold) → AreHold resident since o old → NamesAt old new (waits_for wants n page) page true → AreHold (set resident page true) (set since page (k + 1)) (option_map (frame_after_install wants page) o) new
 hold-installed resident since k page n wants None None None number is was names = tt
 hold-installed resident since k page n wants None None (Some new) number is was names = names
 hold-installed resident since k page n wants None (Some old) new number is was names = absurd was
@@ -437,7 +437,7 @@ hold-installed resident since k page n wants (Some f) (Some old) (Some new) numb
     by_test true names = hold-waiting resident since k page f old new (is old refl) was names
     by_test false names = hold-other resident since k page f old new (is old refl) was names
 
-installed-number : (wants : List Want) (page : ℕ) (f : Frame) → (with_installed wants page f).number ≡ f.number
+installed-number : (wants : List Want) (page : ℕ) (f : Frame) → (frame_after_install wants page f).number ≡ f.number
 installed-number wants page f =
     elim (waits_for wants f.number page) as (λ b. (cond b (record f { pins = set f.pins page true }) f).number ≡ f.number) [ true ↦ refl | false ↦ refl ]
 
@@ -453,14 +453,14 @@ named-after (Some old) (Some new) waits page p hold at names has =
     by_test false e h = inr (old, refl, h)
 
 pub Agrees-installed : (k : ℕ) (frames : List Frame) (x y : Standing) (page : ℕ) → Agrees k frames x → get_or x.places.resident.items page false ≡ false → page < length x.places.resident.items → y.places.resident.items ≡ set x.places.resident.items page true → IsCounted y.places → y.since.items ≡ set x.since.items page (k + 1) → NamesAll x.frames.holds y.frames.holds (λ f. waits_for (values x.wants.queue) f page) page true → y.frames.moments ≡ x.frames.moments → IsIndexed y.frames → length y.frames.counts.items ≡ length x.frames.counts.items → IsQueued (k + 1) y.wants → IsOwned y.frames.holds y.wants →
-    Agrees (k + 1) (map (with_installed (values x.wants.queue) page) frames) y
+    Agrees (k + 1) (map (frame_after_install (values x.wants.queue) page) frames) y
 Agrees-installed k frames x y page agrees absent below resident counted since names moments indexed len queued owned = record {
   queued = queued;
   owned = owned;
   counted = counted;
   indexed = indexed;
-  apart = AreApart-map (with_installed (values x.wants.queue) page) (installed-number (values x.wants.queue) page) frames agrees.apart;
-  hold = λ n. rw (resident, since, frame_at-map n (with_installed (values x.wants.queue) page) (installed-number (values x.wants.queue) page) frames)
+  apart = AreApart-map (frame_after_install (values x.wants.queue) page) (installed-number (values x.wants.queue) page) frames agrees.apart;
+  hold = λ n. rw (resident, since, frame_at-map n (frame_after_install (values x.wants.queue) page) (installed-number (values x.wants.queue) page) frames)
       (hold-installed x.places.resident.items x.since.items k page n (values x.wants.queue) (frame_at n frames) (get nat_cmp x.frames.holds n) (get nat_cmp y.frames.holds n) (λ f at. found-number n frames f at) (λ hold at. installed n hold at) (agrees.hold n) (names n));
   named = λ n hold p at has. rw resident (⊎_elim
       (λ same. rw (← same) (get_or-set_same x.places.resident.items page true false below))

@@ -7,7 +7,7 @@ use Rattle.std.specs.declared.cmp.Ordering.TheVariants.{Less, Equal, Greater}
 use Rattle.geom_core.specs.declared.digests.Digest32.{Digest32}
 use Rattle.journal.specs.declared.entries.What.TheVariants.{Pin, Settle, Ask, Narrow, Unpin, Install, Fail}
 use Rattle.pool_rules.specs.Frame.{Frame}
-use Rattle.pool_rules.specs.declared.wants.Want.{Want}
+use Rattle.pool_rules.specs.declared.want.Want.{Want}
 use Rattle.pool_state.specs.declared.frames.Hold.{Hold}
 use Rattle.pool_state.specs.declared.standings.Standing.{Standing}
 use Rattle.pool_state.specs.Holding.{recounted, named_by, named_count, moment_of, covers, pins_of, frame_at, has_number, listed, unlisted}

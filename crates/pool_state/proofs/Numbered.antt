@@ -5,7 +5,7 @@ use Rattle.std.specs.Option.{is_some, option_map}
 use Rattle.std.proofs.lemmas.Bool.Decides.{Decides-eqb}
 use Rattle.pool_rules.specs.Frame.{Frame}
 use Rattle.pool_state.specs.Holding.{frame_at, has_number, AreApart}
-use Rattle.pool_rules.specs.State.{put}
+use Rattle.pool_rules.specs.State.{replace_frame}
 use Rattle.pool_rules.proofs.Tests.{or-cases, same-eqb}
 
 abbrev pub passes : (Frame → Bool) → Option Frame → Bool
@@ -90,10 +90,10 @@ found-any test (g ∷ frames) apart h =
 same-numbers : (a b c : ℕ) → (a == b) ≡ true → (a == c) ≡ (b == c)
 same-numbers a b c e = let same : a ≡ b = same-eqb a b e in ap (λ n. n == c) same
 
-pub frame_at-put : (n : ℕ) (frame : Frame) (frames : List Frame) → frame_at n (put frame frames) ≡ cond (frame.number == n) (Some frame) (frame_at n frames)
+pub frame_at-put : (n : ℕ) (frame : Frame) (frames : List Frame) → frame_at n (replace_frame frame frames) ≡ cond (frame.number == n) (Some frame) (frame_at n frames)
 frame_at-put n frame [] = refl
 frame_at-put n frame (f ∷ frames) =
-    elim (f.number == frame.number) as (λ b. (f.number == frame.number) ≡ b → frame_at n (cond b (frame ∷ frames) (f ∷ put frame frames)) ≡ cond (frame.number == n) (Some frame) (cond (f.number == n) (Some f) (frame_at n frames))) [
+    elim (f.number == frame.number) as (λ b. (f.number == frame.number) ≡ b → frame_at n (cond b (frame ∷ frames) (f ∷ replace_frame frame frames)) ≡ cond (frame.number == n) (Some frame) (cond (f.number == n) (Some f) (frame_at n frames))) [
       | true ↦ λ e. rw (same-numbers f.number frame.number n e) (both (frame.number == n))
       | false ↦ λ e. rw (frame_at-put n frame frames) (apart e)
     ] refl
@@ -113,18 +113,18 @@ frame_at-put n frame (f ∷ frames) =
         turned (f.number == n) (frame.number == n) (Some f) (Some frame) (frame_at n frames)
         (λ a b. let one : f.number ≡ n = same-eqb f.number n a in let two : frame.number ≡ n = same-eqb frame.number n b in let same : (f.number == frame.number) ≡ true = rw (one, two) (eqb-refl n) in cc)
 
-has_number-put : (n : ℕ) (frame : Frame) (frames : List Frame) → has_number n (put frame frames) ≡ ((frame.number == n) || has_number n frames)
+has_number-put : (n : ℕ) (frame : Frame) (frames : List Frame) → has_number n (replace_frame frame frames) ≡ ((frame.number == n) || has_number n frames)
 has_number-put n frame frames =
-    has_number-found n (put frame frames) ∙ (ap is_some (frame_at-put n frame frames) ∙ split (frame.number == n))
+    has_number-found n (replace_frame frame frames) ∙ (ap is_some (frame_at-put n frame frames) ∙ split (frame.number == n))
   where
     split : (b : Bool) → is_some (cond b (Some frame) (frame_at n frames)) ≡ (b || has_number n frames)
     split true = refl
     split false = sym (has_number-found n frames)
 
-pub AreApart-put : (frame : Frame) (frames : List Frame) → AreApart frames → AreApart (put frame frames)
+pub AreApart-put : (frame : Frame) (frames : List Frame) → AreApart frames → AreApart (replace_frame frame frames)
 AreApart-put frame [] apart = (refl, tt)
 AreApart-put frame (f ∷ frames) apart =
-    elim (f.number == frame.number) as (λ b. (f.number == frame.number) ≡ b → AreApart (cond b (frame ∷ frames) (f ∷ put frame frames))) [
+    elim (f.number == frame.number) as (λ b. (f.number == frame.number) ≡ b → AreApart (cond b (frame ∷ frames) (f ∷ replace_frame frame frames))) [
       | true ↦ λ e. let same : f.number ≡ frame.number = same-eqb f.number frame.number e in (rw same at apart.0, apart.1)
       | false ↦ λ e. (has_number-put f.number frame frames ∙ (rw (turned e) apart.0), AreApart-put frame frames apart.1)
     ] refl

@@ -11,7 +11,7 @@ use Rattle.std.proofs.lemmas.List.{take_all}
 use Rattle.std.proofs.lemmas.List.Folds.{list_any_more, list_any-append}
 use Rattle.std.specs.declared.ops.Bound.TheVariants.{Included}
 use Rattle.pool_state.specs.declared.frames.Hold.{Hold}
-use Rattle.pool_rules.specs.declared.wants.Want.{Want}
+use Rattle.pool_rules.specs.declared.want.Want.{Want}
 use Rattle.pool_state.specs.declared.wants.Wants.{Wants}
 use Rattle.pool_state.specs.Queue.{pair_cmp, want_at, is_paged, is_among, is_one_of, IsQueued, IsOwned, ListsPage, ListsFrame, ListsGone, want_of, PutsSome, PutsAll, Takes, Ends, IsNarrower, waits_at}
 use Rattle.pool_state.specs.Holding.{NamesAt, NamesAll}

@@ -14,7 +14,7 @@ use Rattle.std.proofs.lemmas.Map.Entries.{option_filter, lookup-filter-values, l
 use Rattle.std.proofs.lemmas.Map.Keys.{IsDistinct-from_sorted, sorted_tail}
 use Rattle.std.proofs.lemmas.Map.{lookup-none}
 use Rattle.pool_state.specs.declared.frames.Hold.{Hold}
-use Rattle.pool_rules.specs.declared.wants.Want.{Want}
+use Rattle.pool_rules.specs.declared.want.Want.{Want}
 use Rattle.pool_state.specs.declared.wants.Wants.{Wants}
 use Rattle.journal.specs.Layout.{ascends, ascends_from}
 use Rattle.pool_state.specs.Queue.{pair_cmp, want_at, is_paged, is_among, is_one_of, IsQueued, IsOwned, ListsGone, ListsPage, waits_at, stays, tickets_at, want_of, PutsSome, PutsAll, Takes, Retires, IsAsBefore, QueuesPages, IsNarrower}

@@ -8,7 +8,7 @@ use Rattle.std.specs.declared.cmp.Ordering.{Ordering}
 use Rattle.journal.specs.declared.entries.What.{What}
 use Rattle.journal.specs.declared.entries.What.TheVariants.{Settle, Ask}
 use Rattle.pool_state.specs.declared.frames.Hold.{Hold}
-use Rattle.pool_rules.specs.declared.wants.Want.{Want}
+use Rattle.pool_rules.specs.declared.want.Want.{Want}
 use Rattle.pool_state.specs.declared.wants.Wants.{Wants}
 
 -- the order of pairs of numbers: by the first, of equals by the second

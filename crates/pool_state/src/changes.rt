@@ -8,7 +8,7 @@ ghost use Rattle.pool_state.specs.Moved.{Moves, Stays};
 ghost use Rattle.pool_rules.specs.Rules.{all_resident, allows};
 ghost use Rattle.pool_state.specs.Shown.{shown};
 ghost use Rattle.pool_rules.specs.Sound.{IsSound};
-ghost use Rattle.pool_rules.specs.State.{State, is_live, is_resident, changed, after};
+ghost use Rattle.pool_rules.specs.State.{State, is_live, is_resident, state_after_event, state_after};
 ghost use Rattle.pool_rules.specs.Victim.{is_pinned};
 ghost use Rattle.journal.specs.declared.entries.Entry.{Entry};
 ghost use Rattle.journal.specs.declared.entries.What.TheVariants.{Pin, Settle, Ask, Narrow, Unpin, Take, Install, Starve};
@@ -68,7 +68,7 @@ impl Standing {
     fn pin(&mut self, alloc: Global, by: u32, frame: u32) -> Result<(), Memory>
         ensures ok { (frames : List Frame) → Agrees self.old.entries frames self.old →
             OnOk result (Stands (self.old.entries + 1) self.new
-            (changed (shown self.old frames) by (Pin frame))) }
+            (state_after_event (shown self.old frames) by (Pin frame))) }
         ensures err { (frames : List Frame) → Agrees self.old.entries frames self.old →
             OnErr result (Stands self.old.entries self.new (shown self.old frames)) }
         ensures queue { self.new.wants.queue ≡ self.old.wants.queue }
@@ -101,7 +101,7 @@ impl Standing {
             all_resident (shown self.old frames) pages.now ≡ true →
             is_live frames frame ≡ true → ascends missing.now ≡ true →
             OnOk result (Stands (self.old.entries + 1) self.new
-            (changed (shown self.old frames) by (Settle frame pages.now missing.now))) }
+            (state_after_event (shown self.old frames) by (Settle frame pages.now missing.now))) }
         ensures err { (frames : List Frame) → Agrees self.old.entries frames self.old →
             OnErr result (Stands self.old.entries self.new (shown self.old frames)) }
         ensures from { OnOk result
@@ -129,7 +129,7 @@ impl Standing {
         ensures ok { (frames : List Frame) → Agrees self.old.entries frames self.old →
             is_live frames frame ≡ true → ascends pages.now ≡ true →
             OnOk result (Stands (self.old.entries + 1) self.new
-            (changed (shown self.old frames) by (Ask frame pages.now))) }
+            (state_after_event (shown self.old frames) by (Ask frame pages.now))) }
         ensures err { (frames : List Frame) → Agrees self.old.entries frames self.old →
             OnErr result (Stands self.old.entries self.new (shown self.old frames)) }
         ensures from { OnOk result
@@ -147,7 +147,7 @@ impl Standing {
         ensures ok { (frames : List Frame) → Agrees self.old.entries frames self.old →
             all_resident (shown self.old frames) pages.now ≡ true →
             OnOk result (Stands (self.old.entries + 1) self.new
-            (changed (shown self.old frames) by (Narrow frame pages.now))) }
+            (state_after_event (shown self.old frames) by (Narrow frame pages.now))) }
         ensures err { (frames : List Frame) → Agrees self.old.entries frames self.old →
             OnErr result (Stands self.old.entries self.new (shown self.old frames)) }
         ensures queue { self.new.wants.queue ≡ self.old.wants.queue }
@@ -168,7 +168,7 @@ impl Standing {
     fn unpin(&mut self, by: u32, frame: u32) -> Result<(), Memory>
         ensures ok { (frames : List Frame) → Agrees self.old.entries frames self.old →
             OnOk result (Stands (self.old.entries + 1) self.new
-            (changed (shown self.old frames) by (Unpin frame))) }
+            (state_after_event (shown self.old frames) by (Unpin frame))) }
         ensures err { (frames : List Frame) → Agrees self.old.entries frames self.old →
             OnErr result (Stands self.old.entries self.new (shown self.old frames)) }
         ensures queue { self.new.wants.queue ≡ self.old.wants.queue }
@@ -185,7 +185,7 @@ impl Standing {
         ensures taken { (frames : List Frame) → Agrees self.old.entries frames self.old →
             IfSome victim (λ v. is_pinned (shown self.old frames) v ≡ false) →
             Stands (self.old.entries + 1) self.new
-            (changed (shown self.old frames) by (Take frame page victim)) }
+            (state_after_event (shown self.old frames) by (Take frame page victim)) }
         ensures queue { self.new.wants.queue ≡ self.old.wants.queue }
         ensures stays { Stays self.old self.new }
     {
@@ -199,7 +199,7 @@ impl Standing {
     fn end_load(&mut self, alloc: Global, by: u32, page: u32) -> Result<(), Memory>
         ensures ok { (frames : List Frame) → Agrees self.old.entries frames self.old →
             OnOk result (Stands (self.old.entries + 1) self.new
-            (changed (shown self.old frames) by (Starve page))) }
+            (state_after_event (shown self.old frames) by (Starve page))) }
         ensures err { (frames : List Frame) → Agrees self.old.entries frames self.old →
             OnErr result (Stands self.old.entries self.new (shown self.old frames)) }
         ensures narrower { IsNarrower self.old.wants.queue self.new.wants.queue }
@@ -218,7 +218,7 @@ impl Standing {
             is_resident (shown self.old frames) page ≡ false →
             page < length self.old.places.resident.items →
             OnOk result (Stands (self.old.entries + 1) self.new
-            (changed (shown self.old frames) by (Install page digest))) }
+            (state_after_event (shown self.old frames) by (Install page digest))) }
         ensures err { (frames : List Frame) → Agrees self.old.entries frames self.old →
             is_resident (shown self.old frames) page ≡ false →
             OnErr result (Stands self.old.entries self.new (shown self.old frames)) }
@@ -247,7 +247,7 @@ impl Standing {
             Agrees self.old.entries frames self.old → IsSound layout (shown self.old frames) →
             allows layout (shown self.old frames) journal by what.now ≡ true →
             OnOk result (Stands (self.old.entries + 1) self.new
-            (changed (shown self.old frames) by what.now)) }
+            (state_after_event (shown self.old frames) by what.now)) }
         ensures err { (layout : Layout) (journal : List Entry) (frames : List Frame) →
             Agrees self.old.entries frames self.old → IsSound layout (shown self.old frames) →
             allows layout (shown self.old frames) journal by what.now ≡ true →
@@ -297,7 +297,7 @@ impl Standing {
         ensures ok { (layout : Layout) (journal : List Entry) (s : State) →
             Stands s.entries self.old s → IsSound layout s →
             allows layout s journal entry.now.by entry.now.what ≡ true →
-            OnOk result (Stands (s.entries + 1) self.new (after s entry.now)) }
+            OnOk result (Stands (s.entries + 1) self.new (state_after s entry.now)) }
         ensures err { (layout : Layout) (journal : List Entry) (s : State) →
             Stands s.entries self.old s → IsSound layout s →
             allows layout s journal entry.now.by entry.now.what ≡ true →

@@ -7,7 +7,7 @@ ghost use Rattle.pool_rules.specs.Next.{can_take};
 ghost use Rattle.pool_rules.specs.Rules.{owns, pins, loads, all_resident, any_resident};
 ghost use Rattle.journal.specs.Layout.{page_numbers};
 ghost use Rattle.pool_state.specs.Shown.{shown};
-ghost use Rattle.pool_rules.specs.State.{opening, is_resident, is_loading, is_held, is_live, held_count};
+ghost use Rattle.pool_rules.specs.State.{initial_state, is_resident, is_loading, is_held, is_live, held_count};
 ghost use Rattle.pool_rules.specs.Victim.{is_pinned};
 
 use crate::arrays::{count_at, zeros};
@@ -50,7 +50,7 @@ pub fn covers(moment: Option<u64>, since: u64) -> bool
 impl Standing {
     /// Before any entry: the root pages are resident.
     pub fn opening(alloc: Global, layout: &Plan) -> Result<Standing, Memory>
-        ensures shows { IfOk result (λ standing. shown standing [] ≡ opening layout.now) }
+        ensures shows { IfOk result (λ standing. shown standing [] ≡ initial_state layout.now) }
         ensures agrees { IfOk result (Agrees 0 []) }
     {
         Ok(Standing {

@@ -5,41 +5,41 @@ use Rattle.journal.specs.declared.entries.Entry.{Entry}
 use Rattle.journal.specs.declared.entries.What.{What}
 use Rattle.journal.specs.declared.entries.What.TheVariants.{Pin, Settle, Ask, Narrow, Unpin, Take, Install, Fail, Spoil, Starve, Full, Stop}
 use Rattle.journal.specs.declared.layouts.Layout.{Layout}
-use Rattle.pool_rules.specs.declared.wants.Want.{Want}
+use Rattle.pool_rules.specs.declared.want.Want.{Want}
 use Rattle.pool_rules.specs.Frame.{Frame}
 use Rattle.journal.specs.Layout.{ascends}
 use Rattle.pool_rules.specs.Next.{is_take, is_full, next_in}
 use Rattle.residency.specs.Recalled.{Begins, IsNew, frame_begun, is_frame}
 use Rattle.pool_rules.specs.Rules.{allows, owns, pins, is_page_list, all_resident, any_resident, is_entry_of, has_entry}
-use Rattle.pool_rules.specs.State.{State, opening, after, frames_after, is_live, put, state_of, waits_for, with_installed}
+use Rattle.pool_rules.specs.State.{State, initial_state, state_after, frames_after, is_live, replace_frame, state_of, waits_for, frame_after_install}
 use Rattle.pool_rules.proofs.Tests.{and-both, not-false, or-cases, or-left, or-right, any-weaker, any-filter, same-eqb}
 
 -- ---- the frames that are live after an entry
 
-live-put : (frame : Frame) (frames : List Frame) (f : ℕ) → is_live (put frame frames) f ≡ true → ((frame.number == f) ≡ true) ⊎ (is_live frames f ≡ true)
+live-put : (frame : Frame) (frames : List Frame) (f : ℕ) → is_live (replace_frame frame frames) f ≡ true → ((frame.number == f) ≡ true) ⊎ (is_live frames f ≡ true)
 live-put frame [] f h = or-cases (frame.number == f) false h
 live-put frame (g ∷ frames) f h = step (g.number == frame.number) h (live-put frame frames f)
   where
-    step : (b : Bool) → is_live (cond b (frame ∷ frames) (g ∷ put frame frames)) f ≡ true → (is_live (put frame frames) f ≡ true → ((frame.number == f) ≡ true) ⊎ (is_live frames f ≡ true)) → ((frame.number == f) ≡ true) ⊎ (is_live (g ∷ frames) f ≡ true)
+    step : (b : Bool) → is_live (cond b (frame ∷ frames) (g ∷ replace_frame frame frames)) f ≡ true → (is_live (replace_frame frame frames) f ≡ true → ((frame.number == f) ≡ true) ⊎ (is_live frames f ≡ true)) → ((frame.number == f) ≡ true) ⊎ (is_live (g ∷ frames) f ≡ true)
     step true k others =
         ⊎_elim (λ here. inl here) (λ later. inr (or-right (g.number == f) (is_live frames f) later)) (or-cases (frame.number == f) (is_live frames f) k)
     step false k others =
         ⊎_elim
         (λ here. inr (or-left (g.number == f) (is_live frames f) here))
         (λ later. ⊎_elim (λ new. inl new) (λ old. inr (or-right (g.number == f) (is_live frames f) old)) (others later))
-        (or-cases (g.number == f) (is_live (put frame frames) f) k)
+        (or-cases (g.number == f) (is_live (replace_frame frame frames) f) k)
 
-installed-number : (wants : List Want) (page : ℕ) (f : Frame) → (with_installed wants page f).number ≡ f.number
+installed-number : (wants : List Want) (page : ℕ) (f : Frame) → (frame_after_install wants page f).number ≡ f.number
 installed-number wants page f =
     elim (waits_for wants f.number page) as (λ b. (cond b (record f { pins = set f.pins page true }) f).number ≡ f.number) [ true ↦ refl | false ↦ refl ]
 
-live-map : (wants : List Want) (page f : ℕ) (frames : List Frame) → is_live (map (with_installed wants page) frames) f ≡ true → is_live frames f ≡ true
+live-map : (wants : List Want) (page f : ℕ) (frames : List Frame) → is_live (map (frame_after_install wants page) frames) f ≡ true → is_live frames f ≡ true
 live-map wants page f [] h = h
 live-map wants page f (g ∷ frames) h =
     ⊎_elim
     (λ here. or-left (g.number == f) (is_live frames f) (sym (ap (λ n. n == f) (installed-number wants page g)) ∙ here))
     (λ later. or-right (g.number == f) (is_live frames f) (live-map wants page f frames later))
-    (or-cases ((with_installed wants page g).number == f) (is_live (map (with_installed wants page) frames) f) h)
+    (or-cases ((frame_after_install wants page g).number == f) (is_live (map (frame_after_install wants page) frames) f) h)
 
 live-entered : (s : State) (by : ℕ) (what : What) (f : ℕ) → is_live (frames_after s by what) f ≡ true → (is_entry_of f what ≡ true) ⊎ (is_live s.frames f ≡ true)
 live-entered s by (Pin frame) f h = live-put _ s.frames f h
@@ -55,17 +55,17 @@ live-entered s by (Starve page) f h = inr h
 live-entered s by (Full frame) f h = inr h
 live-entered s by Stop f h = inr h
 
-live-from : (journal : List Entry) (s : State) (f : ℕ) → is_live (fold after s journal).frames f ≡ true → (is_live s.frames f ≡ true) ⊎ (has_entry f journal ≡ true)
+live-from : (journal : List Entry) (s : State) (f : ℕ) → is_live (fold state_after s journal).frames f ≡ true → (is_live s.frames f ≡ true) ⊎ (has_entry f journal ≡ true)
 live-from [] s f h = inl h
 live-from (e ∷ journal) s f h =
     ⊎_elim
     (λ now. ⊎_elim (λ new. inr (or-left (is_entry_of f e.what) (has_entry f journal) new)) (λ old. inl old) (live-entered s e.by e.what f now))
     (λ later. inr (or-right (is_entry_of f e.what) (has_entry f journal) later))
-    (live-from journal (after s e) f h)
+    (live-from journal (state_after s e) f h)
 
 -- a live frame has an entry
 pub live-begun : (layout : Layout) (journal : List Entry) (f : ℕ) → is_live (state_of layout journal).frames f ≡ true → has_entry f journal ≡ true
-live-begun layout journal f h = ⊎_elim (λ none. cc) (λ begun. begun) (live-from journal (opening layout) f h)
+live-begun layout journal f h = ⊎_elim (λ none. cc) (λ begun. begun) (live-from journal (initial_state layout) f h)
 
 -- ---- the frame of an entry that is allowed
 

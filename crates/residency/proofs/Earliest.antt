@@ -11,7 +11,7 @@ use Rattle.std.specs.declared.cmp.Ordering.TheVariants.{Less}
 use Rattle.std.proofs.lemmas.List.Kept.{IsStrictlySortedBy-filter}
 use Rattle.std.proofs.lemmas.Map.Entries.{btree_map_get_place}
 use Rattle.std.proofs.lemmas.Map.Made.{is_some-lookup}
-use Rattle.pool_rules.specs.declared.wants.Want.{Want}
+use Rattle.pool_rules.specs.declared.want.Want.{Want}
 use Rattle.pool_offers.specs.Offer.{has_ticket, passes, passing}
 use Rattle.pool_state.specs.Queue.{pair_cmp, want_at}
 use Rattle.pool_state.proofs.Ordered.{compared-equal, compared-less, then-less}

@@ -8,7 +8,7 @@ use Rattle.journal.specs.declared.entries.What.{What}
 use Rattle.journal.specs.declared.entries.What.TheVariants.{Pin, Narrow, Unpin, Fail, Starve, Stop}
 use Rattle.journal.specs.declared.layouts.Layout.{Layout}
 use Rattle.pool_leaves.specs.Recent.{is_recent}
-use Rattle.pool_rules.specs.State.{State, opening, state_of}
+use Rattle.pool_rules.specs.State.{State, initial_state, state_of}
 use Rattle.residency.specs.History.{begun, entered}
 use Rattle.residency.specs.Recalled.{falling, falling_cmp, faults_of, frame_begun, is_frame, is_listed}
 use Rattle.residency.specs.Stalest.{IsCandidate, IsStalest}
@@ -64,7 +64,7 @@ abbrev three : Layout
 three = record { pages = 3; roots = 1; slots = 2; uppers = [] ∷ [] ∷ [] ∷ [] }
 
 abbrev came_1 : State
-came_1 = record (opening three) { resident = true ∷ true ∷ false ∷ []; named = 2 ∷ 4 ∷ 0 ∷ [] }
+came_1 = record (initial_state three) { resident = true ∷ true ∷ false ∷ []; named = 2 ∷ 4 ∷ 0 ∷ [] }
 
 -- it is a candidate for page 2 where it stands at that count, in a search from no later one on
 pub candidate_1 : IsCandidate three came_1 2 4 (is_recent ((3, 2) ∷ (4, 1) ∷ [])) 1

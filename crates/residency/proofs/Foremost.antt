@@ -27,7 +27,7 @@ use Rattle.std.proofs.lemmas.List.Kept.{IsStrictlySortedBy-filter}
 use Rattle.pool_leaves.specs.Parking.{Ranks}
 use Rattle.pool_state.specs.Shown.{shown}
 use Rattle.pool_rules.specs.State.{State, is_resident}
-use Rattle.pool_rules.specs.Victim.{named_of, is_evictable, is_pinned, victim_for, IsStaler}
+use Rattle.pool_rules.specs.Victim.{named_of, is_evictable, is_pinned, victim_for, IsLessRecent}
 use Rattle.pool_leaves.proofs.Leafing.{below-pages, stands-from, end_at, rank-same, leaf-whole}
 use Rattle.pool_state.proofs.Ordered.{compared-less, compared-equal, then-less}
 use Rattle.pool_rules.proofs.Flags.{place-within}
@@ -155,7 +155,7 @@ evictable-leaf layout s page q h =
     leaf-whole layout s q (record { resident = free.resident; inner = free.no_root; bare = free.bare })
 
 -- of two that come no later than each other each is the other
-same-first : (s : State) (v w : ℕ) → IsStaler s v w → IsStaler s w v → v ≡ w
+same-first : (s : State) (v w : ℕ) → IsLessRecent s v w → IsLessRecent s w v → v ≡ w
 same-first s v w (inl a) (inl b) = omega (arith, a, b)
 same-first s v w (inl a) (inr b) = omega (arith, a, b.0)
 same-first s v w (inr a) (inl b) = omega (arith, a.0, b)
@@ -173,7 +173,7 @@ ordered-found layout s page start order place few sorted found = (told.0, told.1
     told : (named_of s place.1 ≡ place.0.0) × (is_evictable layout s page place.1 ≡ true)
     told = fits-parts layout s page place (find-passes (fits layout s page) (reverse places) place found)
 
-    staler : (w : ℕ) → IsFirst place (rank (named_of s w) w) → IsStaler s place.1 w
+    staler : (w : ℕ) → IsFirst place (rank (named_of s w) w) → IsLessRecent s place.1 w
     staler w (inl less) = inl (omega (arith, told.0, less))
     staler w (inr (same, later)) = inr (omega (arith, told.0, same), later)
 
@@ -245,7 +245,7 @@ recent-found layout s page start places place turn found = (told.0, told.1, λ q
     told : (named_of s place.1 ≡ place.0) × (is_evictable layout s page place.1 ≡ true)
     told = fits-parts layout s page (rank place.0 place.1) (find-passes (fits_there layout s page) places place found)
 
-    staler : (w : ℕ) → IsSooner place (named_of s w, w) → IsStaler s place.1 w
+    staler : (w : ℕ) → IsSooner place (named_of s w, w) → IsLessRecent s place.1 w
     staler w (inl less) = inl (omega (arith, told.0, less))
     staler w (inr (same, later)) = inr (omega (arith, told.0, same), later)
 

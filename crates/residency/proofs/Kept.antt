@@ -20,7 +20,7 @@ use Rattle.residency.specs.Recalled.{Recalls}
 use Rattle.pool_rules.specs.Rules.{IsLegal, allows, is_allowed}
 use Rattle.pool_state.specs.Shown.{shown}
 use Rattle.pool_rules.specs.Sound.{IsSound}
-use Rattle.pool_rules.specs.State.{State, after, changed, is_held, state_of}
+use Rattle.pool_rules.specs.State.{State, state_after, state_after_event, is_held, state_of}
 use Rattle.pool_rules.proofs.LegalJournals.{state_of-push, entries-state_of}
 use Rattle.pool_leaves.proofs.Parked.{Places-moved, Places-same}
 use Rattle.pool_rules.proofs.Soundness.{IsSound-after, IsSound-state_of}
@@ -63,7 +63,7 @@ Keeps-at layout journal account recalls at = record {
 }
 
 -- the state after one entry more
-pub IsAt-push : (layout : Layout) (journal : List Entry) (e : Entry) (account : Account) → IsAt layout (after (state_of layout journal) e) account → IsAt layout (state_of layout (journal ++ e ∷ [])) account
+pub IsAt-push : (layout : Layout) (journal : List Entry) (e : Entry) (account : Account) → IsAt layout (state_after (state_of layout journal) e) account → IsAt layout (state_of layout (journal ++ e ∷ [])) account
 IsAt-push layout journal e account at =
     let P : State → Type 0 = λ s. IsAt layout s account in subst P (sym (state_of-push layout journal e)) at
 
@@ -87,16 +87,16 @@ before-entry layout journal e x stands bounds legal allowed =
     }
 
 -- the entry stands, its leaves have their places, and the pages that stand on others are counted
-pub Ranks-entered : (layout : Layout) (journal : List Entry) (e : Entry) (old new : Standing) (before offered leaves : Leaves) → Stands (state_of layout journal).entries old (state_of layout journal) → Ranks layout (state_of layout journal).frames old before → InBounds layout → IsLegal layout journal → is_allowed layout journal e ≡ true → IsReady layout (state_of layout journal).frames old e.by e.what offered → Moves e.what old new → Stands ((state_of layout journal).entries + 1) new (after (state_of layout journal) e) →
-    CountsLowers layout (is_held (changed (state_of layout journal) e.by e.what)) leaves.lowers.items → leaves.recent ≡ offered.recent → leaves.order ≡ offered.order → leaves.parked ≡ offered.parked → Ranks layout (after (state_of layout journal) e).frames new leaves
+pub Ranks-entered : (layout : Layout) (journal : List Entry) (e : Entry) (old new : Standing) (before offered leaves : Leaves) → Stands (state_of layout journal).entries old (state_of layout journal) → Ranks layout (state_of layout journal).frames old before → InBounds layout → IsLegal layout journal → is_allowed layout journal e ≡ true → IsReady layout (state_of layout journal).frames old e.by e.what offered → Moves e.what old new → Stands ((state_of layout journal).entries + 1) new (state_after (state_of layout journal) e) →
+    CountsLowers layout (is_held (state_after_event (state_of layout journal) e.by e.what)) leaves.lowers.items → leaves.recent ≡ offered.recent → leaves.order ≡ offered.order → leaves.parked ≡ offered.parked → Ranks layout (state_after (state_of layout journal) e).frames new leaves
 Ranks-entered layout journal e old new before offered leaves was ranks bounds legal allowed ready moves stands lowers recent order parked =
     let s = state_of layout journal in
     let is = before-entry layout journal e old was bounds legal allowed in
-    let shows : shown new (after s e).frames ≡ after (shown old s.frames) e = stands.shows ∙ ap (λ (t : State). after t e) (sym was.shows) in
-    let resident : new.places.resident.items ≡ (after s e).resident = ap (λ (t : State). t.resident) stands.shows in
-    let placed = Places-moved layout s.frames (after s e).frames old new e.by e.what before offered is.agrees ready moves shows (ap length resident ∙ (IsSound-after layout s journal e.by e.what bounds (IsSound-state_of layout journal bounds legal) allowed).flag_a_page) ranks.places in
+    let shows : shown new (state_after s e).frames ≡ state_after (shown old s.frames) e = stands.shows ∙ ap (λ (t : State). state_after t e) (sym was.shows) in
+    let resident : new.places.resident.items ≡ (state_after s e).resident = ap (λ (t : State). t.resident) stands.shows in
+    let placed = Places-moved layout s.frames (state_after s e).frames old new e.by e.what before offered is.agrees ready moves shows (ap length resident ∙ (IsSound-after layout s journal e.by e.what bounds (IsSound-state_of layout journal bounds legal) allowed).flag_a_page) ranks.places in
     let P : State → Type 0 = λ t. CountsLowers layout (is_held t) leaves.lowers.items in
     record {
       lowers = subst P (sym stands.shows) lowers;
-      places = Places-same layout (after s e).frames new offered leaves recent order parked placed;
+      places = Places-same layout (state_after s e).frames new offered leaves recent order parked placed;
     }

@@ -2,7 +2,7 @@
 use Rattle.std.proofs.Common.{◌≡◌, ℕ, ◌<◌, ◌≤◌, true, false, cond, nat_lt, Option, None, sym, ap, ◌∙◌, arith}
 use Rattle.std.proofs.lemmas.Bool.Decides.{Decides-ltb, nat_tests}
 use Rattle.journal.specs.declared.layouts.Layout.{Layout}
-use Rattle.pool_rules.specs.declared.nexts.Next.TheVariants.{Take}
+use Rattle.pool_rules.specs.declared.next_load.Next.TheVariants.{Take}
 use Rattle.pool_rules.specs.Next.{next_at, next_with}
 use Rattle.pool_rules.specs.State.{State, held_count}
 use Rattle.pool_rules.specs.Victim.{victim_for}

@@ -2,7 +2,7 @@
 use Rattle.std.specs.Prelude.{◌≡◌, ◌≤◌, ℕ, Bool, true, Option, None, Some}
 use Rattle.journal.specs.declared.layouts.Layout.{Layout}
 use Rattle.pool_rules.specs.State.{State}
-use Rattle.pool_rules.specs.Victim.{named_of, is_evictable, IsStaler}
+use Rattle.pool_rules.specs.Victim.{named_of, is_evictable, IsLessRecent}
 
 -- the page may be evicted for this one, was last named at this count or later, and stands there
 pub record IsCandidate (layout : Layout) (s : State) (page start : ℕ) (places : ℕ → ℕ → Bool) (candidate : ℕ) : Type 0 where
@@ -16,4 +16,4 @@ abbrev pub IsStalest : Layout → State → ℕ → ℕ → (ℕ → ℕ → Boo
 IsStalest layout s page start places None = (q : ℕ) → IsCandidate layout s page start places q → ⊥
 IsStalest layout s page start places (Some place) =
     (named_of s place.1 ≡ place.0) × (is_evictable layout s page place.1 ≡ true)
-    × ((q : ℕ) → IsCandidate layout s page start places q → IsStaler s place.1 q)
+    × ((q : ℕ) → IsCandidate layout s page start places q → IsLessRecent s place.1 q)

@@ -9,7 +9,7 @@ ghost use Rattle.pool_offers.specs.Offer.{AreOffered, ListsTouched};
 ghost use Rattle.pool_leaves.specs.Parking.{Ranks};
 ghost use Rattle.pool_rules.specs.Rules.{is_allowed, IsLegal};
 ghost use Rattle.pool_state.specs.Shown.{shown};
-ghost use Rattle.pool_rules.specs.State.{opening, state_of};
+ghost use Rattle.pool_rules.specs.State.{initial_state, state_of};
 
 use crate::recalls::Recall;
 use crate::{Entry, What};
@@ -60,12 +60,12 @@ impl Account {
 
     /// Of a journal without entries.
     pub fn opening(alloc: Global, layout: &Plan) -> Result<Account, Memory>
-        ensures stands { IfOk result (λ account. Stands 0 account.standing (opening layout.now)) }
+        ensures stands { IfOk result (λ account. Stands 0 account.standing (initial_state layout.now)) }
         ensures recalls { IfOk result (λ account. Recalls [] account.recall) }
         ensures ranks { InBounds layout.now →
             IfOk result (λ account. Ranks layout.now [] account.standing account.leaves) }
         ensures offers { InBounds layout.now → IfOk result (λ account. AreOffered layout.now
-            (opening layout.now) account.standing.wants.queue account.offers) }
+            (initial_state layout.now) account.standing.wants.queue account.offers) }
     {
         Ok(Account {
             standing: Standing::opening(alloc, layout)?,

@@ -1,6 +1,6 @@
 use Rattle.std.proofs.Common.{◌≡◌, ◌==◌, ℕ, Some, true, take}
 use Rattle.std.specs.List.{list_any}
-use Rattle.pool_rules.specs.declared.wants.Want.{Want}
+use Rattle.pool_rules.specs.declared.want.Want.{Want}
 use Rattle.pool_state.specs.Queue.{IsQueued, want_at, is_among}
 use Rattle.pool_offers.proofs.offers.add_tickets_of_lowers.Given as goal
 

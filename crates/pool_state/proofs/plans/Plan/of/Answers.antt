@@ -12,5 +12,5 @@ of-requires c =
     let few : (page : ℕ) → page < length lists → length (slice_index_or lists page []) < 2 ^ 32 = λ page inside.
     let fit = bounds.uppers page inside in
     let uppers = slice_index_or lists page [] in
-    omega (arith, few-ascending 0 page uppers (omega arith) fit.0 fit.1, inside, bounds.list_a_page, bounds.counts.few_pages) in
+    omega (arith, few-ascending 0 page uppers (omega arith) fit.0 fit.1, inside, bounds.list_a_page, bounds.counts.page_limit) in
     rw c.as_slice.ensures (All-from_get_or (λ list. length list < 2 ^ 32) lists [] few)

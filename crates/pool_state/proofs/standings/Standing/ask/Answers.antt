@@ -1,7 +1,7 @@
 use Rattle.std.proofs.Common.{◌≡◌, ◌++◌, List, true, false, nat_cmp, arith, refl, ap, sym, ◌∙◌}
 use Rattle.std.specs.BTreeMap.{get}
 use Rattle.std.specs.Option.{is_some}
-use Rattle.pool_rules.specs.declared.wants.Want.{Want}
+use Rattle.pool_rules.specs.declared.want.Want.{Want}
 use Rattle.pool_state.specs.Shown.{shown}
 use Rattle.pool_rules.specs.State.{wants_of}
 use Rattle.pool_state.proofs.Agreed.{Agrees-same, Stands-refused, others-stay, with-wants, from_ok, from_err, on_ok_of, on_err_of}

@@ -3,7 +3,7 @@ use Rattle.std.specs.BTreeMap.{get}
 use Rattle.std.specs.Option.{is_some}
 use Rattle.std.proofs.lemmas.List.{with_items_is}
 use Rattle.pool_state.specs.declared.frames.Hold.{Hold}
-use Rattle.pool_rules.specs.declared.wants.Want.{Want}
+use Rattle.pool_rules.specs.declared.want.Want.{Want}
 use Rattle.pool_rules.specs.Frame.{Frame}
 use Rattle.pool_rules.specs.State.{marked, name_at, wants_of}
 use Rattle.pool_state.proofs.Agreed.{Agrees-put, IsHold-named, Stands-refused, named-resident, name_at-len, on_err, others-stay, same-state}

@@ -5,7 +5,7 @@ use Rattle.std.proofs.lemmas.Iterator.{items_from_collect, YieldsList-from_map}
 use Rattle.std.proofs.lemmas.Iterator.Consumers.{YieldsList-from_rest}
 use Rattle.std.specs.BTreeMap.Range.{entries_between}
 use Rattle.std.specs.declared.ops.Bound.TheVariants.{Included}
-use Rattle.pool_rules.specs.declared.wants.Want.{Want}
+use Rattle.pool_rules.specs.declared.want.Want.{Want}
 use Rattle.pool_state.specs.Queue.{pair_cmp}
 use Rattle.pool_state.proofs.Queued.{ListsFrame-stamped, ListsFrame-none}
 use Rattle.pool_state.proofs.wants.Wants.tickets_of_frame.Goals as goal
