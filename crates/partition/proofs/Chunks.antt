@@ -1,4 +1,4 @@
--- The batches of an order: how long each is, where an item of one stands, and that they join to the order.
+-- The batches of an order: how long each is, where an item of one is, and that they join to the order.
 use Rattle.std.proofs.Common.{◌≡◌, ◌<◌, ◌≤◌, ◌+◌, ◌-◌, ◌*◌, ◌/◌, ◌%◌, inl, inr, ℕ, zero, suc, Bool, min, List, [], ◌++◌, length, get_or, take, drop, map, Contains, sym, ap, ◌∙◌, zero-add, arith}
 use Rattle.std.specs.Fork.{slice_chunk}
 use Rattle.std.specs.List.{flat_map, range_with_len}
@@ -12,7 +12,7 @@ use Rattle.partition.specs.OneBatch.{IsInOneBatch}
 use Rattle.partition.proofs.Determined.{IsGrown}
 use Rattle.partition.proofs.Members.{is_in-from, is_in-true}
 use Rattle.partition.proofs.OnePlace.{item_placed, place_is_one}
-use Rattle.partition.proofs.RunLists.{length-range, get_or-range}
+use Rattle.partition.proofs.SharedEdgeLists.{length-range, get_or-range}
 
 -- how many batches there are: all but the last are full, and the last has an item
 count_covers : (size total : ℕ) → 0 < size → total ≤ (total + (size - 1)) / size * size

@@ -6,7 +6,7 @@ ghost use Rattle.partition.specs.Morton.{cell_of, morton_of, spread_bits};
 
 use geom_core::Pt;
 
-/// The bits of the numbers below 128, spread to every third place: bit i stands at 3i.
+/// The bits of the numbers below 128, spread apart: bit i of a number is bit 3i of its entry.
 const SPREAD: [u32; 128] = [
     0, 1, 8, 9, 64, 65, 72, 73, 512, 513, 520, 521, 576, 577, 584, 585, 4_096, 4_097, 4_104, 4_105,
     4_160, 4_161, 4_168, 4_169, 4_608, 4_609, 4_616, 4_617, 4_672, 4_673, 4_680, 4_681, 32_768,
@@ -21,10 +21,10 @@ const SPREAD: [u32; 128] = [
     299_080, 299_081, 299_520, 299_521, 299_528, 299_529, 299_584, 299_585, 299_592, 299_593,
 ];
 
-/// The Morton key of a point (Morton 1966), whose coordinates are from -1,048,576 to 1,048,576.
+/// Returns the Morton key of a point (Morton 1966): the bits of its cells on the three axes interleaved, x lowest.
 ///
-/// Points that lie near one another mostly have keys near one another. The key is made of cells two wide
-/// on each axis, so up to eight neighbouring points have one key.
+/// A cell is two grid steps wide, so that its number has 21 bits and the key 63; up to eight neighbouring
+/// points have one key. Points near one another mostly have keys near one another.
 pub fn morton(p: Pt) -> u64
     requires { IsMeshPoint p }
     ensures { result ≡ morton_of p }
@@ -32,12 +32,12 @@ pub fn morton(p: Pt) -> u64
     spread(cell(p.x)) + 2 * spread(cell(p.y)) + 4 * spread(cell(p.z))
 }
 
-/// The low corner of the box round two points.
+/// The low corner of the box of two points.
 pub(crate) fn low_between(p: Pt, q: Pt) -> Pt
     requires p { IsMeshPoint p }
     requires q { IsMeshPoint q }
-    ensures value { result ≡ low_of p q }
-    ensures in_range { IsMeshPoint result }
+    ensures corner { result ≡ low_of p q }
+    ensures corner_range { IsMeshPoint result }
 {
     Pt {
         x: lesser(p.x, q.x),
@@ -50,22 +50,22 @@ pub(crate) fn low_between(p: Pt, q: Pt) -> Pt
 fn lesser(m: i32, n: i32) -> i32
     requires m { IsMeshCoordinate m }
     requires n { IsMeshCoordinate n }
-    ensures value { result ≡ int_min m n }
-    ensures in_range { IsMeshCoordinate result }
+    ensures lesser { result ≡ int_min m n }
+    ensures coordinate_range { IsMeshCoordinate result }
 {
     m.min(n)
 }
 
-/// The cell that a coordinate lies in.
+/// The number of the cell that a coordinate is in, from 0.
 fn cell(n: i32) -> u32
     requires { IsMeshCoordinate n }
-    ensures value { result ≡ cell_of n }
-    ensures bound { result < 2 ^ 21 }
+    ensures cell { result ≡ cell_of n }
+    ensures cell_limit { result < 2 ^ 21 }
 {
     (n + 1_048_576) as u32 / 2
 }
 
-/// The lowest seven bits of a number, spread to every third place.
+/// The seven bits of a number below 128, spread apart.
 fn spread_seven(bits: u32) -> u64
     requires { bits < 128 }
     ensures entry { result ≡ slice_index SPREAD bits }
@@ -73,11 +73,11 @@ fn spread_seven(bits: u32) -> u64
     SPREAD[bits as usize] as u64
 }
 
-/// The lowest 21 bits of a number, spread to every third place.
+/// The 21 bits of a number, spread apart: bit i is bit 3i of the result.
 fn spread(bits: u32) -> u64
     requires { bits < 2 ^ 21 }
-    ensures value { result ≡ spread_bits 21 bits }
-    ensures bound { result < 2 ^ 61 }
+    ensures spread { result ≡ spread_bits 21 bits }
+    ensures spread_limit { result < 2 ^ 61 }
 {
     let low = spread_seven(bits % 128);
     let middle = spread_seven(bits / 128 % 128);

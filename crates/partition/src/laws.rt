@@ -1,26 +1,26 @@
-//! The laws of grown orders, as functions without a body: each clause holds for all items, keys and
-//! neighbours.
+//! The laws of grown orders and their batches, as functions without a body. Each clause holds for all items,
+//! keys and neighbours.
 
 ghost use Rattle.std.specs.Prelude.{◌≡◌, ◌+◌, ◌<◌, ◌≤◌, ◌==◌, Bool, true, ℕ, List, [], length, slice_index_or, count_by};
 ghost use Rattle.std.specs.List.{flat_map};
 ghost use Rattle.partition.specs.Growing.{batches_of, is_grown};
 ghost use Rattle.partition.specs.OneBatch.{IsInOneBatch};
 
-/// There is always exactly one grown order: the rule determines it.
+/// There is exactly one grown order: the rule determines it.
 pub fn one_order_grows()
-    ensures some { (n size : ℕ) (key : ℕ → ℕ) (near : ℕ → ℕ → Bool) →
+    ensures exists { (n size : ℕ) (key : ℕ → ℕ) (near : ℕ → ℕ → Bool) →
         (order : List ℕ) × (is_grown n key near size order ≡ true) }
-    ensures alone { (n size : ℕ) (key : ℕ → ℕ) (near : ℕ → ℕ → Bool) (order other : List ℕ) →
+    ensures unique { (n size : ℕ) (key : ℕ → ℕ) (near : ℕ → ℕ → Bool) (order other : List ℕ) →
         is_grown n key near size order ≡ true → is_grown n key near size other ≡ true →
         order ≡ other }
 {}
 
-/// Each item stands in a grown order once, and in exactly one batch; nothing else stands there.
+/// Each item is in a grown order once, and in exactly one batch; nothing else is there.
 pub fn each_item_is_in_one_batch()
     ensures once { (n size : ℕ) (key : ℕ → ℕ) (near : ℕ → ℕ → Bool) (order : List ℕ) →
         is_grown n key near size order ≡ true →
         (item : ℕ) → item < n → count_by (λ placed. placed == item) order ≡ 1 }
-    ensures alone { (n size : ℕ) (key : ℕ → ℕ) (near : ℕ → ℕ → Bool) (order : List ℕ) →
+    ensures item_range { (n size : ℕ) (key : ℕ → ℕ) (near : ℕ → ℕ → Bool) (order : List ℕ) →
         is_grown n key near size order ≡ true →
         (place : ℕ) → place < length order → slice_index_or order place 0 < n }
     ensures one_batch { (n size : ℕ) (key : ℕ → ℕ) (near : ℕ → ℕ → Bool) (order : List ℕ) →
@@ -35,10 +35,10 @@ pub fn batches_are_full_but_the_last()
     ensures full { (size : ℕ) (order : List ℕ) → 0 < size →
         (k : ℕ) → k + 1 < length (batches_of size order) →
         length (slice_index_or (batches_of size order) k []) ≡ size }
-    ensures some { (size : ℕ) (order : List ℕ) → 0 < size →
+    ensures not_empty { (size : ℕ) (order : List ℕ) → 0 < size →
         (k : ℕ) → k < length (batches_of size order) →
         0 < length (slice_index_or (batches_of size order) k []) }
-    ensures most { (size : ℕ) (order : List ℕ) → 0 < size →
+    ensures size_limit { (size : ℕ) (order : List ℕ) → 0 < size →
         (k : ℕ) → k < length (batches_of size order) →
         length (slice_index_or (batches_of size order) k []) ≤ size }
 {}

@@ -1,6 +1,6 @@
 ghost use Rattle.std.specs.Prelude.{◌≡◌, ◌≤◌, ◌^◌, IfOk, length, map};
 ghost use Rattle.std.specs.List.{enumerate_from};
-ghost use Rattle.partition.specs.Ranking.{IsRanking};
+ghost use Rattle.partition.specs.Internal.Ranking.{IsRanking};
 
 use geom_core::Memory;
 use std::alloc::Global;
@@ -10,7 +10,7 @@ use std::alloc::Global;
 struct Keyed {
     /// The item's Morton key.
     key: u64,
-    /// The item's place in the list that was handed in.
+    /// The item's position in the list of keys, from 0.
     number: u32,
 }
 

@@ -7,8 +7,8 @@ returns-clause-joined c = batches_joined
 pub returns-clause-full : goal.returns-clause-full
 returns-clause-full c = batch_full
 
-pub returns-clause-some : goal.returns-clause-some
-returns-clause-some c = batch_some
+pub returns-clause-not_empty : goal.returns-clause-not_empty
+returns-clause-not_empty c = batch_some
 
-pub returns-clause-most : goal.returns-clause-most
-returns-clause-most c = batch_most
+pub returns-clause-size_limit : goal.returns-clause-size_limit
+returns-clause-size_limit c = batch_most

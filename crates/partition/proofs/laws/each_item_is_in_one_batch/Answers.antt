@@ -8,8 +8,8 @@ pub returns-clause-once : goal.returns-clause-once
 returns-clause-once c n size key near order grown item below =
     placed_once n key near size order (is_grown-is n key near size order grown) item below
 
-pub returns-clause-alone : goal.returns-clause-alone
-returns-clause-alone c n size key near order grown place within =
+pub returns-clause-item_range : goal.returns-clause-item_range
+returns-clause-item_range c n size key near order grown place within =
     let is = is_grown-is n key near size order grown in
     (next_at n key near size order is place (omega (arith, is.whole))).below
 
