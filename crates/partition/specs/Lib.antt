@@ -6,4 +6,3 @@ pub mod Internal
 pub mod Morton
 pub mod Neighbours
 pub mod OneBatch
-pub mod Ranges

@@ -1,4 +1,5 @@
 ghost use Rattle.std.specs.Prelude.{◌≡◌, ◌+◌, ◌*◌, ◌≤◌, ◌<◌, ◌^◌, IfOk, All, length, map, slice_index};
+ghost use Rattle.geom_core.specs.declared.limits.TheConstants.{MAX_TRIANGLES, TRIANGLES_PER_CLUSTER};
 ghost use Rattle.partition.specs.Growing.{batches_of};
 ghost use Rattle.std.specs.Fork.{slice_chunk};
 ghost use Rattle.partition.specs.Internal.EdgeUses.{IsUseBelow};
@@ -18,8 +19,8 @@ pub(crate) fn grow_batches(
     size: u32,
 ) -> Result<Vec<Nums>, Memory>
     requires size_range { 0 < size }
-    requires size_limit { size ≤ 128 }
-    requires item_limit { length order.now ≤ 2 ^ 20 }
+    requires size_limit { size ≤ TRIANGLES_PER_CLUSTER }
+    requires item_limit { length order.now ≤ MAX_TRIANGLES }
     requires rank_range { All (IsUseBelow (length order.now)) uses.items }
     ensures { IfOk result (λ batches. AreBatchesOfRanks order.now uses.items size batches.items) }
 {

@@ -1,5 +1,6 @@
 ghost use Rattle.std.specs.Prelude.{◌≡◌, ◌≤◌, ◌<◌, ◌^◌, ℕ, IfOk, All, IsPermutation, map, length};
-ghost use Rattle.partition.specs.Ranges.{IsMeshEdge, IsMeshPoint};
+ghost use Rattle.geom_core.specs.Limits.{IsGridPoint};
+ghost use Rattle.partition.specs.Groups.{IsGridEdge};
 ghost use Rattle.partition.specs.Internal.SharedEdges.{IsSharedEdge, are_adjacent};
 ghost use Rattle.partition.specs.Internal.EdgeUses.{AreInOrder, HasEdgeKey, IsUseBelow, begins_edge, edge_of, edge_starts, are_adjacent_in, on_one_edge, use_of};
 
@@ -23,8 +24,8 @@ pub(crate) struct EdgeUse {
 
 /// The use, by the item of this rank, of the edge between two points, whichever comes first.
 pub(crate) fn use_between(p: Pt, q: Pt, rank: u32) -> EdgeUse
-    requires p { IsMeshPoint p }
-    requires q { IsMeshPoint q }
+    requires p { IsGridPoint p }
+    requires q { IsGridPoint q }
     ensures { result ≡ use_of rank (p, q) }
 {
     let edge = edge_between(p, q);
@@ -37,10 +38,10 @@ pub(crate) fn use_between(p: Pt, q: Pt, rank: u32) -> EdgeUse
 
 /// The edge between two points without its direction: the lesser point first.
 fn edge_between(p: Pt, q: Pt) -> Edge
-    requires p { IsMeshPoint p }
-    requires q { IsMeshPoint q }
+    requires p { IsGridPoint p }
+    requires q { IsGridPoint q }
     ensures edge { result ≡ edge_of (p, q) }
-    ensures edge_range { IsMeshEdge result }
+    ensures edge_range { IsGridEdge result }
 {
     if p <= q {
         Edge { u: p, v: q }

@@ -1,4 +1,5 @@
 ghost use Rattle.std.specs.Prelude.{◌≡◌, ◌≢◌, ◌<◌, ◌≤◌, ◌%◌, ◌^◌, ◌∷◌, ◌++◌, [], true, ℕ, length, IfOk, OnOk, All};
+ghost use Rattle.geom_core.specs.declared.limits.TheConstants.{MAX_TRIANGLES};
 ghost use Rattle.partition.specs.Internal.Frontiers.{IsLeft, Keeps, KeepsLeft};
 ghost use Rattle.partition.specs.Growing.{is_grown, is_next};
 ghost use Rattle.partition.specs.Internal.Growths.{IsGrowth, IsNextLeft, IsPlacedBelow, IsReady, IsReadyBut, SomeLeft, batch_of};
@@ -138,7 +139,7 @@ pub(crate) fn grown_order(
     size: u32,
 ) -> Result<Vec<u32>, Memory>
     requires size_range { 0 < size }
-    requires item_limit { count ≤ 2 ^ 20 }
+    requires item_limit { count ≤ MAX_TRIANGLES }
     requires sound { All (IsSharedEdge count) shared.now }
     ensures { IfOk result (λ order.
         is_grown count (λ _. 0) (are_adjacent shared.now) size order.items ≡ true) }

@@ -4,6 +4,7 @@ use Rattle.std.proofs.Common.{[], ◌≡◌, ◌<◌, ◌+◌, List, ℕ, All, l
 use Rattle.std.proofs.lemmas.List.{length-map}
 use Rattle.std.proofs.lemmas.Result.{IfOk-weaker}
 use Rattle.geom_core.specs.declared.triangles.Tri.{Tri}
+use Rattle.geom_core.specs.declared.limits.TheConstants.{TRIANGLES_PER_CLUSTER}
 use Rattle.geom_core.specs.EdgeSum.{edges_of}
 use Rattle.partition.specs.declared.edge_uses.EdgeUse.{EdgeUse}
 use Rattle.partition.specs.Internal.RankBatches.{AreBatchesOfRanks}
@@ -53,7 +54,7 @@ returns c =
     let order : List ℕ = c.in_ok-order.order.items in
     let P : List ℕ → Type 0 = λ xs. IsRanking (map triangle_key c.args.tris.now) xs in
     let same : c.deref-2.result.now ≡ c.deref-3.result.now = c.deref-2.ensures.value ∙ sym c.deref-3.ensures.value in
-    IfOk-weaker c.grow_batches.result (λ batches. AreBatchesOfRanks c.deref-3.result.now c.in_ok-uses.uses.items 128 batches.items) (λ clusters. AreClusters c.args.tris.now clusters.items)
-    (λ batches t. batches_from_renumbered (map triangle_key c.args.tris.now) (map edges_of c.args.tris.now) c.deref-3.result.now c.in_ok-uses.uses.items 128 batches.items (omega arith)
+    IfOk-weaker c.grow_batches.result (λ batches. AreBatchesOfRanks c.deref-3.result.now c.in_ok-uses.uses.items TRIANGLES_PER_CLUSTER batches.items) (λ clusters. AreClusters c.args.tris.now clusters.items)
+    (λ batches t. batches_from_renumbered (map triangle_key c.args.tris.now) (map edges_of c.args.tris.now) c.deref-3.result.now c.in_ok-uses.uses.items TRIANGLES_PER_CLUSTER batches.items (omega arith)
     (subst P (sym c.deref-3.ensures.value) h) (c.in_ok-uses.ensures ∙ ap (λ xs. uses_from 0 (in_order (map edges_of c.args.tris.now) xs)) same) t)
     c.grow_batches.ensures

@@ -3,6 +3,7 @@ use Rattle.std.specs.List.{slice_index_or}
 use Rattle.std.proofs.Common.{[], ◌≡◌, ◌<◌, ◌+◌, List, ℕ, All, length, map, subst, sym, ap, ◌∙◌, arith}
 use Rattle.std.proofs.lemmas.List.{length-map}
 use Rattle.std.proofs.lemmas.Result.{IfOk-weaker}
+use Rattle.geom_core.specs.declared.limits.TheConstants.{CLUSTERS_PER_GROUP}
 use Rattle.partition.specs.declared.shapes.ClusterShape.{ClusterShape}
 use Rattle.partition.specs.declared.edge_uses.EdgeUse.{EdgeUse}
 use Rattle.partition.specs.Internal.RankBatches.{AreBatchesOfRanks}
@@ -52,7 +53,7 @@ returns c =
     let order : List ℕ = c.in_ok-order.order.items in
     let P : List ℕ → Type 0 = λ xs. IsRanking (map shape_key c.args.shapes.now) xs in
     let same : c.deref-2.result.now ≡ c.deref-3.result.now = c.deref-2.ensures.value ∙ sym c.deref-3.ensures.value in
-    IfOk-weaker c.grow_batches.result (λ batches. AreBatchesOfRanks c.deref-3.result.now c.in_ok-uses.uses.items 8 batches.items) (λ groups. AreGroups c.args.shapes.now groups.items)
-    (λ batches t. batches_from_renumbered (map shape_key c.args.shapes.now) (map rim_edges c.args.shapes.now) c.deref-3.result.now c.in_ok-uses.uses.items 8 batches.items (omega arith)
+    IfOk-weaker c.grow_batches.result (λ batches. AreBatchesOfRanks c.deref-3.result.now c.in_ok-uses.uses.items CLUSTERS_PER_GROUP batches.items) (λ groups. AreGroups c.args.shapes.now groups.items)
+    (λ batches t. batches_from_renumbered (map shape_key c.args.shapes.now) (map rim_edges c.args.shapes.now) c.deref-3.result.now c.in_ok-uses.uses.items CLUSTERS_PER_GROUP batches.items (omega arith)
     (subst P (sym c.deref-3.ensures.value) h) (c.in_ok-uses.ensures ∙ ap (λ xs. uses_from 0 (in_order (map rim_edges c.args.shapes.now) xs)) same) t)
     c.grow_batches.ensures
