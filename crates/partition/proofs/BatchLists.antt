@@ -23,7 +23,7 @@ use Rattle.partition.proofs.Renumbering.{grown_renumbered, renumbers}
 
 -- ---- one more
 
-range_more : (n : ℕ) → range_with_len 0 (n + 1) ≡ range_with_len 0 n ++ n ∷ []
+pub range_more : (n : ℕ) → range_with_len 0 (n + 1) ≡ range_with_len 0 n ++ n ∷ []
 range_more n =
     sym (map-id (range_with_len 0 (n + 1)))
     ∙ (map-range_with_len_more (λ k. k) 0 n n (zero-add n)

@@ -1,5 +1,6 @@
 pub mod Adjacency
 pub mod Always
+pub mod BatchLaws
 pub mod BatchLists
 pub mod Chunks
 pub mod Determined
@@ -13,6 +14,7 @@ pub mod Members
 pub mod NeighbourExamples
 pub mod Nexts
 pub mod OnePlace
+pub mod Permuted
 pub mod Placing
 pub mod Popped
 pub mod RankedItems
