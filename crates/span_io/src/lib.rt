@@ -6,23 +6,23 @@
 //! forms over the standard library's readers and writers tell nothing, and count what fails.
 #![tactic(auto)]
 
+mod failure_plan;
 mod memory_sinks;
 mod memory_sources;
-mod plans;
-mod putting;
 mod retries;
 mod sinks;
 mod sources;
 mod std_sinks;
 mod std_sources;
+mod write_all;
 
 pub use memory_sinks::MemorySink;
 pub use memory_sources::MemorySource;
-pub use putting::put_all;
 pub use sinks::{Sink, Took};
 pub use sources::{Got, Source};
 pub use std_sinks::StdSink;
 pub use std_sources::StdSource;
+pub use write_all::put_all;
 
 #[cfg(test)]
 mod tests;

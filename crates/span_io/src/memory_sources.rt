@@ -3,7 +3,7 @@ ghost use Rattle.span_io.specs.Reads.{ReadDoes};
 ghost use Rattle.span_io.specs.Plans.{plan_of};
 ghost use Rattle.span_io.specs.MemorySources.{SourceState, read_answer, after_read};
 
-use crate::plans::FaultPlan;
+use crate::failure_plan::FailurePlan;
 use crate::{Got, Source};
 use std::marker::Model;
 
@@ -15,7 +15,7 @@ pub struct MemorySource {
     bytes: Vec<u8>,
     at: usize,
     most: u32,
-    plan: FaultPlan,
+    plan: FailurePlan,
 }
 
 impl Model for MemorySource {
@@ -45,7 +45,7 @@ impl MemorySource {
             bytes,
             at: 0,
             most,
-            plan: FaultPlan::of(failing),
+            plan: FailurePlan::of(failing),
         }
     }
 }
@@ -58,9 +58,9 @@ impl Source for MemorySource {
     fn read_some(&mut self, into: &mut [u8]) -> Got
         requires { 0 < length into.old }
 
-        ensures does { ReadDoes (Some self.old.left) (Some self.new.left)
+        ensures outcome { ReadDoes (Some self.old.left) (Some self.new.left)
             self.old.plan.faults self.new.plan.faults into.new result }
-        ensures count { self.old.plan.faults ≤ self.new.plan.faults }
+        ensures fault_count { self.old.plan.faults ≤ self.new.plan.faults }
 
         ensures answer { result ≡ read_answer self.old (length into.old) }
         ensures state { self.new ≡ after_read self.old (length into.old) }

@@ -25,14 +25,14 @@ pub trait Sink {
     /// Takes some of the bytes, from the first on.
     fn write_some(&mut self, from: &[u8]) -> Took
         requires { 0 < length from.now }
-        ensures does { WriteDoes (written self.old) (written self.new)
+        ensures outcome { WriteDoes (written self.old) (written self.new)
             (flushed self.old) (flushed self.new) (faults self.old) (faults self.new)
             from.now result }
-        ensures count { faults self.old ≤ faults self.new };
+        ensures fault_count { faults self.old ≤ faults self.new };
 
     /// Flushes what was taken; false where that fails.
     fn finish(&mut self) -> bool
-        ensures does { FinishDoes (written self.old) (written self.new)
+        ensures outcome { FinishDoes (written self.old) (written self.new)
             (flushed self.old) (flushed self.new) (faults self.old) (faults self.new) result }
-        ensures count { faults self.old ≤ faults self.new };
+        ensures fault_count { faults self.old ≤ faults self.new };
 }

@@ -24,7 +24,7 @@ pub trait Source {
     /// Reads some of the bytes left, at least 1 if there are any, to the front of `into`.
     fn read_some(&mut self, into: &mut [u8]) -> Got
         requires { 0 < length into.old }
-        ensures does { ReadDoes (left self.old) (left self.new) (faults self.old) (faults self.new)
+        ensures outcome { ReadDoes (left self.old) (left self.new) (faults self.old) (faults self.new)
             into.new result }
-        ensures count { faults self.old ≤ faults self.new };
+        ensures fault_count { faults self.old ≤ faults self.new };
 }

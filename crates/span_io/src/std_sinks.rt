@@ -3,7 +3,7 @@ ghost use Rattle.span_io.specs.Writes.{WriteDoes, FinishDoes};
 ghost use Rattle.span_io.specs.StdForms.{WriterState, faults_after_write, faults_after_finish, Holds};
 ghost use Rattle.std.specs.Io.KnownBytes.{Keeps};
 
-use crate::retries::{flush_again, write_again};
+use crate::retries::{flush_retrying, write_retrying};
 use crate::{Sink, Took};
 use std::io::Write;
 use std::marker::Model;
@@ -51,15 +51,15 @@ impl<W: Write> Sink for StdSink<W> {
     fn write_some(&mut self, from: &[u8]) -> Took
         requires { 0 < length from.now }
 
-        ensures does { WriteDoes None None self.old.flushed self.new.flushed
+        ensures outcome { WriteDoes None None self.old.flushed self.new.flushed
             self.old.faults self.new.faults from.now result }
-        ensures count { self.old.faults ≤ self.new.faults }
+        ensures fault_count { self.old.faults ≤ self.new.faults }
 
-        ensures each { self.new.faults ≡ faults_after_write self.old.faults result }
-        ensures known { Holds (W.contents self.old.writer) (W.contents self.new.writer)
+        ensures fault_count_after { self.new.faults ≡ faults_after_write self.old.faults result }
+        ensures known_bytes { Holds (W.contents self.old.writer) (W.contents self.new.writer)
             from.now result }
     {
-        match write_again(&mut self.writer, from) {
+        match write_retrying(&mut self.writer, from) {
             Ok(0) | Err(_) => {
                 self.faults = self.faults.saturating_add(1);
                 Took::Failed
@@ -72,14 +72,14 @@ impl<W: Write> Sink for StdSink<W> {
     }
 
     fn finish(&mut self) -> bool
-        ensures does { FinishDoes None None self.old.flushed self.new.flushed
+        ensures outcome { FinishDoes None None self.old.flushed self.new.flushed
             self.old.faults self.new.faults result }
-        ensures count { self.old.faults ≤ self.new.faults }
+        ensures fault_count { self.old.faults ≤ self.new.faults }
 
-        ensures each { self.new.faults ≡ faults_after_finish self.old.faults result }
-        ensures known { Keeps (W.contents self.old.writer) (W.contents self.new.writer) }
+        ensures fault_count_after { self.new.faults ≡ faults_after_finish self.old.faults result }
+        ensures known_bytes { Keeps (W.contents self.old.writer) (W.contents self.new.writer) }
     {
-        match flush_again(&mut self.writer) {
+        match flush_retrying(&mut self.writer) {
             Ok(()) => {
                 self.flushed = true;
                 true

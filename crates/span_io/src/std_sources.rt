@@ -2,7 +2,7 @@ ghost use Rattle.std.specs.Prelude.{◌≡◌, ◌≤◌, ◌<◌, None, length}
 ghost use Rattle.span_io.specs.Reads.{ReadDoes};
 ghost use Rattle.span_io.specs.StdForms.{ReaderState, faults_after_read, Gave};
 
-use crate::retries::read_again;
+use crate::retries::read_retrying;
 use crate::{Got, Source};
 use std::io::Read;
 use std::marker::Model;
@@ -38,14 +38,14 @@ impl<R: Read> Source for StdSource<R> {
     fn read_some(&mut self, into: &mut [u8]) -> Got
         requires { 0 < length into.old }
 
-        ensures does { ReadDoes None None self.old.faults self.new.faults into.new result }
-        ensures count { self.old.faults ≤ self.new.faults }
+        ensures outcome { ReadDoes None None self.old.faults self.new.faults into.new result }
+        ensures fault_count { self.old.faults ≤ self.new.faults }
 
-        ensures each { self.new.faults ≡ faults_after_read self.old.faults result }
-        ensures known { Gave (R.remaining self.old.reader) (R.remaining self.new.reader)
+        ensures fault_count_after { self.new.faults ≡ faults_after_read self.old.faults result }
+        ensures known_bytes { Gave (R.remaining self.old.reader) (R.remaining self.new.reader)
             into.new result }
     {
-        match read_again(&mut self.reader, into) {
+        match read_retrying(&mut self.reader, into) {
             Ok(0) => Got::End,
             Ok(count) => Got::Bytes(count),
             Err(_) => {

@@ -1,12 +1,12 @@
 use Rattle.std.proofs.Common.{◌-◌, ◌≤◌, length, take}
-use Rattle.span_io.specs.Puts.{Put}
-use Rattle.span_io.proofs.putting.put_all.Given as goal
+use Rattle.span_io.specs.Puts.{Appends}
+use Rattle.span_io.proofs.write_all.put_all.Given as goal
 
 -- the first `at` bytes were put, and the count hasn't fallen
 abbrev pub invariant-loop-at : goal.invariant-loop-at
 invariant-loop-at g l =
     (l.at ≤ length l.bytes)
-    × Put (g.K.Sink.written l.fn.out) (g.K.Sink.written l.out) (g.K.Sink.flushed l.fn.out) (g.K.Sink.flushed l.out) (take l.at l.bytes)
+    × Appends (g.K.Sink.written l.fn.out) (g.K.Sink.written l.out) (g.K.Sink.flushed l.fn.out) (g.K.Sink.flushed l.out) (take l.at l.bytes)
     × (g.K.Sink.faults l.fn.out ≤ g.K.Sink.faults l.out)
 
 abbrev pub decreases-loop-at : goal.decreases-loop-at

@@ -1,22 +1,22 @@
 ghost use Rattle.std.specs.Prelude.{◌≤◌, ℕ, length, take};
 ghost use Rattle.std.specs.Bool.{OnTrue, OnFalse};
 ghost use Rattle.span_io.specs.Faults.{Rose};
-ghost use Rattle.span_io.specs.Puts.{Put};
+ghost use Rattle.span_io.specs.Puts.{Appends};
 
 use crate::{Sink, Took};
 
 /// Writes all the bytes, in as many calls as the sink wants. False where a call failed: then only
 /// some of the first bytes were written, perhaps none.
 pub fn put_all<K: Sink>(out: &mut K, bytes: &[u8]) -> bool
-    ensures all { OnTrue result (Put (K.written out.old) (K.written out.new)
+    ensures appended { OnTrue result (Appends (K.written out.old) (K.written out.new)
         (K.flushed out.old) (K.flushed out.new) bytes.now) }
 
     ensures cause { OnFalse result (Rose (K.faults out.old) (K.faults out.new)) }
     ensures prefix { OnFalse result ((n : ℕ) × (n ≤ length bytes.now) ×
-        Put (K.written out.old) (K.written out.new) (K.flushed out.old) (K.flushed out.new)
+        Appends (K.written out.old) (K.written out.new) (K.flushed out.old) (K.flushed out.new)
         (take n bytes.now)) }
 
-    ensures count { K.faults out.old ≤ K.faults out.new }
+    ensures fault_count { K.faults out.old ≤ K.faults out.new }
 {
     let mut at = 0;
     while at < bytes.len() {

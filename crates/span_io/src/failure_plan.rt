@@ -5,13 +5,13 @@ use std::marker::Model;
 
 /// Which calls are to fail, and how many were made and have failed.
 #[derive(Drop)]
-pub struct FaultPlan {
+pub struct FailurePlan {
     failing: Vec<u64>,
     made: u64,
     faults: u64,
 }
 
-impl Model for FaultPlan {
+impl Model for FailurePlan {
     ghost Value = { Plan };
 
     ghost view = { λ plan. record {
@@ -21,12 +21,12 @@ impl Model for FaultPlan {
     } };
 }
 
-impl FaultPlan {
+impl FailurePlan {
     /// The calls with these numbers, from 1, are to fail.
-    pub fn of(failing: Vec<u64>) -> FaultPlan
+    pub fn of(failing: Vec<u64>) -> FailurePlan
         ensures { result ≡ plan_of failing.items }
     {
-        FaultPlan {
+        FailurePlan {
             failing,
             made: 0,
             faults: 0,
@@ -43,7 +43,7 @@ impl FaultPlan {
     /// Counts one more call, and a fault where it fails.
     pub fn count_call(&mut self, fails: bool)
         ensures call { self.new ≡ called self.old fails }
-        ensures never_falls { self.old.faults ≤ self.new.faults }
+        ensures fault_count { self.old.faults ≤ self.new.faults }
     {
         self.made = self.made.saturating_add(1);
         if fails {

@@ -1,5 +1,5 @@
 use Rattle.std.specs.Io.KnownBytes.{Keeps}
-use Rattle.span_io.proofs.retries.read_again.Given as goal
+use Rattle.span_io.proofs.retries.read_retrying.Given as goal
 
 -- the calls so far kept the known bytes
 abbrev pub invariant-loop : goal.invariant-loop
