@@ -15,9 +15,9 @@ consumed-append first second (Some rest) xs ys one two =
     one ∙ ap (option_map (λ (tail : List ℕ). xs ++ tail)) two ∙ ap (λ (bytes : List ℕ). Some bytes) (sym (append_assoc xs ys rest))
 
 -- bytes that a read gave, as those taken from the front
-pub consumed_got : (left new_left : Option (List ℕ)) (buffer : List ℕ) (n : ℕ) → GotBytes left new_left buffer n → Consumed left new_left (take n buffer)
-consumed_got None new_left buffer n got = ap (option_map (λ (rest : List ℕ). take n buffer ++ rest)) (sym got.gone)
-consumed_got (Some bytes) new_left buffer n got =
+pub consumed_got : (left new_left : Option (List ℕ)) (faults new_faults : ℕ) (buffer : List ℕ) (n : ℕ) → GotBytes left new_left faults new_faults buffer n → Consumed left new_left (take n buffer)
+consumed_got None new_left faults new_faults buffer n got = ap (option_map (λ (rest : List ℕ). take n buffer ++ rest)) (sym got.gone)
+consumed_got (Some bytes) new_left faults new_faults buffer n got =
     ap (λ (all : List ℕ). Some all) (sym (take-append-drop n bytes))
     ∙ ap (λ (front : List ℕ). Some (front ++ drop n bytes)) (sym got.same)
     ∙ ap (option_map (λ (rest : List ℕ). take n buffer ++ rest)) (sym got.gone)
@@ -56,13 +56,13 @@ take_parts m n xs =
     ap (λ (l : List ℕ). l ++ take n (drop m xs)) (sym front) ∙ ap (λ (l : List ℕ). take m (take (m + n) xs) ++ l) (sym back) ∙ take-append-drop m (take (m + n) xs)
 
 -- bytes that a sink took, as a put of them
-pub put_taken : (written new_written : Option (List ℕ)) (flushed new_flushed : Bool) (from : List ℕ) (n : ℕ) → TookBytes written new_written new_flushed from n → Appends written new_written flushed new_flushed (take n from)
-put_taken written new_written flushed new_flushed from n took = record {
+pub put_taken : (written new_written : Option (List ℕ)) (flushed new_flushed : Bool) (faults new_faults : ℕ) (from : List ℕ) (n : ℕ) → TookBytes written new_written new_flushed faults new_faults from n → Appends written new_written flushed new_flushed (take n from)
+put_taken written new_written flushed new_flushed faults new_faults from n took = record {
   appended = took.appended;
   flushed_is = took.unflushed ∙ sym (flushed_after_some flushed (take n from) (omega (arith, length-take-le n from took.within, took.some_byte)));
 }
 
 -- the first `at` bytes of a list were put, and then n of the rest were taken
-pub put_more : (first second third : Option (List ℕ)) (f g h : Bool) (bytes : List ℕ) (at n : ℕ) → Appends first second f g (take at bytes) → TookBytes second third h (drop at bytes) n → Appends first third f h (take (at + n) bytes)
-put_more first second third f g h bytes at n so_far took =
-    subst (Appends first third f h) (take_parts at n bytes) (put-append first second third f g h (take at bytes) (take n (drop at bytes)) so_far (put_taken second third g h (drop at bytes) n took))
+pub put_more : (first second third : Option (List ℕ)) (f g h : Bool) (faults new_faults : ℕ) (bytes : List ℕ) (at n : ℕ) → Appends first second f g (take at bytes) → TookBytes second third h faults new_faults (drop at bytes) n → Appends first third f h (take (at + n) bytes)
+put_more first second third f g h faults new_faults bytes at n so_far took =
+    subst (Appends first third f h) (take_parts at n bytes) (put-append first second third f g h (take at bytes) (take n (drop at bytes)) so_far (put_taken second third g h faults new_faults (drop at bytes) n took))

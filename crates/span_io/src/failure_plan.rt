@@ -1,6 +1,9 @@
-ghost use Rattle.std.specs.Prelude.{◌≡◌, ◌≤◌};
+ghost use Rattle.std.specs.Prelude.{◌≡◌};
+ghost use Rattle.std.specs.Bool.{OnTrue};
+ghost use Rattle.span_io.specs.Faults.{Rose};
 ghost use Rattle.span_io.specs.Plans.{Plan, plan_of, next_fails, called};
 
+use crate::faults::count_failure;
 use std::marker::Model;
 
 /// Which calls are to fail, and how many were made and have failed.
@@ -43,11 +46,11 @@ impl FailurePlan {
     /// Counts one more call, and a fault where it fails.
     pub fn count_call(&mut self, fails: bool)
         ensures call { self.new ≡ called self.old fails }
-        ensures fault_count { self.old.faults ≤ self.new.faults }
+        ensures rose { OnTrue fails (Rose self.old.faults self.new.faults) }
     {
         self.made = self.made.saturating_add(1);
         if fails {
-            self.faults = self.faults.saturating_add(1);
+            count_failure(&mut self.faults);
         }
     }
 }

@@ -35,7 +35,8 @@ impl Model for MemorySink {
     } };
 
     ghost invariant = { λ sink.
-        (vec_len sink.bytes + sink.room ≤ vec_capacity sink.bytes) × (1 ≤ sink.most) };
+        (vec_len sink.bytes + sink.room ≤ vec_capacity sink.bytes)
+        × (1 ≤ sink.most) × (sink.plan.faults < 2 ^ 64) };
 }
 
 impl MemorySink {
@@ -84,7 +85,7 @@ impl Sink for MemorySink {
         ensures outcome { WriteDoes (Some self.old.written) (Some self.new.written)
             self.old.flushed self.new.flushed self.old.plan.faults self.new.plan.faults
             from.now result }
-        ensures fault_count { self.old.plan.faults ≤ self.new.plan.faults }
+        ensures fault_range { self.new.plan.faults < 2 ^ 64 }
 
         ensures answer { result ≡ write_answer self.old from.now }
         ensures state { self.new ≡ after_write self.old from.now }
@@ -105,7 +106,7 @@ impl Sink for MemorySink {
     fn finish(&mut self) -> bool
         ensures outcome { FinishDoes (Some self.old.written) (Some self.new.written)
             self.old.flushed self.new.flushed self.old.plan.faults self.new.plan.faults result }
-        ensures fault_count { self.old.plan.faults ≤ self.new.plan.faults }
+        ensures fault_range { self.new.plan.faults < 2 ^ 64 }
 
         ensures answer { result ≡ not (next_fails self.old.plan) }
         ensures state { self.new ≡ after_finish self.old }

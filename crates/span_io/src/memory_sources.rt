@@ -1,4 +1,4 @@
-ghost use Rattle.std.specs.Prelude.{◌≡◌, ◌≤◌, ◌<◌, Some, length, drop};
+ghost use Rattle.std.specs.Prelude.{◌≡◌, ◌≤◌, ◌<◌, ◌^◌, Some, length, drop};
 ghost use Rattle.span_io.specs.Reads.{ReadDoes};
 ghost use Rattle.span_io.specs.Plans.{plan_of};
 ghost use Rattle.span_io.specs.MemorySources.{SourceState, read_answer, after_read};
@@ -27,7 +27,8 @@ impl Model for MemorySource {
       plan = source.plan;
     } };
 
-    ghost invariant = { λ source. (source.at ≤ length source.bytes.items) × (1 ≤ source.most) };
+    ghost invariant = { λ source. (source.at ≤ length source.bytes.items)
+        × (1 ≤ source.most) × (source.plan.faults < 2 ^ 64) };
 }
 
 impl MemorySource {
@@ -60,7 +61,7 @@ impl Source for MemorySource {
 
         ensures outcome { ReadDoes (Some self.old.left) (Some self.new.left)
             self.old.plan.faults self.new.plan.faults into.new result }
-        ensures fault_count { self.old.plan.faults ≤ self.new.plan.faults }
+        ensures fault_range { self.new.plan.faults < 2 ^ 64 }
 
         ensures answer { result ≡ read_answer self.old (length into.old) }
         ensures state { self.new ≡ after_read self.old (length into.old) }
