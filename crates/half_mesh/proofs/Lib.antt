@@ -1,7 +1,6 @@
 pub mod CornerLaws
 pub mod ListLaws
-pub mod MarkLaws
-pub mod PointLaws
+pub mod IncidenceLaws
 pub mod RimLaws
 pub mod SpokeLaws
 pub mod TableLaws

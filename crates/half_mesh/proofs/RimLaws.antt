@@ -8,53 +8,53 @@ use Rattle.std.specs.declared.cmp.Ordering.TheVariants.{Less}
 use Rattle.geom_core.specs.declared.points.Pt.{Pt}
 use Rattle.geom_core.specs.declared.triangles.Tri.{Tri}
 use Rattle.geom_core.specs.EdgeSum.{same_point, edge_count, edge_sum, is_rim_edge}
-use Rattle.geom_core.specs.Order.{point_cmp}
+use Rattle.geom_core.specs.Order.{is_before, point_cmp}
 use Rattle.half_mesh.specs.declared.edges.Edge.{Edge}
-use Rattle.half_mesh.specs.declared.marks.Mark.{Mark}
+use Rattle.half_mesh.specs.declared.incidences.Incidence.{Incidence}
 use Rattle.half_mesh.specs.declared.spokes.Way.{Way}
 use Rattle.half_mesh.specs.Corners.{corners_of}
-use Rattle.half_mesh.specs.Marks.{is_before, at_point, IsByPoint, StartsAt}
+use Rattle.half_mesh.specs.Incidences.{at_point, IsByPoint, StartsAt}
 use Rattle.half_mesh.specs.Order.{edge_cmp}
 use Rattle.half_mesh.specs.Rim.{IsRimEdge, IsRimAt, IsRimOf, sum_on}
 use Rattle.half_mesh.specs.Spokes.{balance, spokes_at}
-use Rattle.half_mesh.proofs.PointLaws.{true≢false, point_cmp-total, before-from_is_before, same_point-before, same_point-after}
+use Rattle.geom_core.proofs.PointLaws.{true≢false, point_cmp-total, before-from_is_before, same_point-before, same_point-after}
 use Rattle.half_mesh.proofs.SpokeLaws.{balance-none, spoke_sum-before, spoke_sum-upto, edge_count-bound}
 use Rattle.half_mesh.proofs.Walks.{IsWalk, walk_start, walk_step, run_whole}
 use Rattle.std.proofs.lemmas.Cmp.{tied_itself}
 
-pub starts_from_first : {T : Type 0} (marks : List (Mark T)) (mark : Mark T) → slice_get marks 0 ≡ Some mark →
-    StartsAt mark.point marks
-starts_from_first [] mark is = absurd (cc is)
-starts_from_first {T} (m ∷ ms) mark is = let same : m ≡ mark = cc is in ap (λ (n : Mark T). n.point) same
+pub starts_from_first : {T : Type 0} (incidences : List (Incidence T)) (incidence : Incidence T) → slice_get incidences 0 ≡ Some incidence →
+    StartsAt incidence.point incidences
+starts_from_first [] incidence is = absurd (cc is)
+starts_from_first {T} (m ∷ ms) incidence is = let same : m ≡ incidence = cc is in ap (λ (n : Incidence T). n.point) same
 
 abbrev pub edge_of : Pt → Pt → Edge
 edge_of u v = record { u = u; v = v }
 
-abbrev WantedAt : Pt → List (Mark Way) → Edge → Type 0
+abbrev WantedAt : Pt → List (Incidence Way) → Edge → Type 0
 WantedAt p spokes e = (e.u ≡ p) × (balance (at_point e.v spokes) ≢ pos 0)
 
 -- the edges from p to the ends that the walk over the spokes has passed
-pub record IsFilling (p : Pt) (spokes rest : List (Mark Way)) (edges : List Edge) (sums : List ℤ) : Type 0 where
+pub record IsFilling (p : Pt) (spokes rest : List (Incidence Way)) (edges : List Edge) (sums : List ℤ) : Type 0 where
   pub walk : IsWalk spokes rest (λ (e : Edge). e.v) (WantedAt p spokes) edges
   pub summed : sums ≡ map (λ (e : Edge). balance (at_point e.v spokes)) edges
 
-pub filling_start : (p : Pt) (spokes : List (Mark Way)) → IsByPoint spokes → IsFilling p spokes spokes [] []
+pub filling_start : (p : Pt) (spokes : List (Incidence Way)) → IsByPoint spokes → IsFilling p spokes spokes [] []
 filling_start p spokes sorted = record {
   walk = walk_start spokes (λ (e : Edge). e.v) (WantedAt p spokes) sorted
       (λ e wants none. wants.1 (ap balance none ∙ balance-none));
   summed = refl;
 }
 
-from_p : (p : Pt) (spokes : List (Mark Way)) (e f : Edge) → WantedAt p spokes e → WantedAt p spokes f →
+from_p : (p : Pt) (spokes : List (Incidence Way)) (e f : Edge) → WantedAt p spokes e → WantedAt p spokes f →
     is_before e.v f.v ≡ true → edge_cmp e f ≡ Less
 from_p p spokes e f one other before =
     ap (λ o. ordering_then o (point_cmp e.v f.v))
     (ap (λ u. point_cmp u f.u) one.0 ∙ ap (λ u. point_cmp p u) other.0 ∙ tied_itself point_cmp-total p) ∙
     before-from_is_before e.v f.v before
 
-pub filling_skip : (p q : Pt) (spokes rest run left : List (Mark Way)) (edges : List Edge) (sums : List ℤ) →
+pub filling_skip : (p q : Pt) (spokes rest run left : List (Incidence Way)) (edges : List Edge) (sums : List ℤ) →
     IsFilling p spokes rest edges sums → StartsAt q rest → rest ≡ run ++ left → run ≡ at_point q rest →
-    All (λ (mark : Mark Way). is_before q mark.point ≡ true) left → IsByPoint left → balance run ≡ pos 0 →
+    All (λ (incidence : Incidence Way). is_before q incidence.point ≡ true) left → IsByPoint left → balance run ≡ pos 0 →
     IsFilling p spokes left edges sums
 filling_skip p q spokes rest run left edges sums so_far starts whole is later sorted zero_sum =
     let all = is ∙ run_whole spokes rest (λ (e : Edge). e.v) (WantedAt p spokes) edges q so_far.walk starts in
@@ -79,9 +79,9 @@ cast_through z fits =
     let wide : FitsSigned w64 z = omega (arith, ints) in
     simp to_z-of_z
 
-pub filling_push : (p q : Pt) (spokes rest run left : List (Mark Way)) (edges : List Edge) (sums : List ℤ) →
+pub filling_push : (p q : Pt) (spokes rest run left : List (Incidence Way)) (edges : List Edge) (sums : List ℤ) →
     IsFilling p spokes rest edges sums → StartsAt q rest → rest ≡ run ++ left → run ≡ at_point q rest →
-    All (λ (mark : Mark Way). is_before q mark.point ≡ true) left → IsByPoint left → balance run ≢ pos 0 →
+    All (λ (incidence : Incidence Way). is_before q incidence.point ≡ true) left → IsByPoint left → balance run ≢ pos 0 →
     (grown : List Edge) (longer : List ℤ) (sum : ℤ) → grown ≡ edges ++ record { u = p; v = q } ∷ [] →
     longer ≡ sums ++ sum ∷ [] → sum ≡ balance run → IsFilling p spokes left grown longer
 filling_push p q spokes rest run left edges sums so_far starts whole is later sorted some_sum grown longer sum pushed added is_sum =
@@ -110,14 +110,14 @@ filling_push p q spokes rest run left edges sums so_far starts whole is later so
               sym (map-append (λ (e : Edge). balance (at_point e.v spokes)) edges (edge ∷ []));
         }
 
-pub filling_fits : (p q : Pt) (spokes rest run : List (Mark Way)) (edges : List Edge) (sums : List ℤ) →
+pub filling_fits : (p q : Pt) (spokes rest run : List (Incidence Way)) (edges : List Edge) (sums : List ℤ) →
     IsFilling p spokes rest edges sums → StartsAt q rest → run ≡ at_point q rest →
     ((v : Pt) → FitsSigned w32 (balance (at_point v spokes))) → FitsSigned w32 (balance run)
 filling_fits p q spokes rest run edges sums so_far starts is small =
     let all : run ≡ at_point q spokes = is ∙ run_whole spokes rest (λ (e : Edge). e.v) (WantedAt p spokes) edges q so_far.walk starts in
     rw all (small q)
 
-pub filling_end : (p : Pt) (spokes rest : List (Mark Way)) (edges : List Edge) (sums : List ℤ) →
+pub filling_end : (p : Pt) (spokes rest : List (Incidence Way)) (edges : List Edge) (sums : List ℤ) →
     IsFilling p spokes rest edges sums → rest ≡ [] → IsRimAt p spokes edges sums
 filling_end p spokes rest edges sums so_far done = record {
   ascending = so_far.walk.ascending;
@@ -150,11 +150,11 @@ is_before-from : (p q : Pt) → point_cmp p q ≡ Less → is_before p q ≡ tru
 is_before-from p q less = ap is_lt less
 
 -- the edges of the rim from the points that the walk over the corners has passed
-pub record IsRimming (tris : List Tri) (corners rest : List (Mark ℕ)) (edges : List Edge) (sums : List ℤ) : Type 0 where
+pub record IsRimming (tris : List Tri) (corners rest : List (Incidence ℕ)) (edges : List Edge) (sums : List ℤ) : Type 0 where
   pub walk : IsWalk corners rest (λ (e : Edge). e.u) (IsRimEdge tris) edges
   pub summed : sums ≡ map (sum_on tris) edges
 
-pub rimming_start : (tris : List Tri) (corners : List (Mark ℕ)) → IsByPoint corners →
+pub rimming_start : (tris : List Tri) (corners : List (Incidence ℕ)) → IsByPoint corners →
     ((p : Pt) → at_point p corners ≡ at_point p (corners_of tris)) → IsRimming tris corners corners [] []
 rimming_start tris corners sorted groups = record {
   walk = walk_start corners (λ (e : Edge). e.u) (IsRimEdge tris) sorted none;
@@ -175,7 +175,7 @@ map-agree {X} {Y} f g (x ∷ xs) all =
     ap (λ (y : Y). y ∷ map f xs) here ∙ ap (λ (ys : List Y). g x ∷ ys) rest
 
 -- the sum of an edge from p to q, counted at p
-sum_at : (tris : List Tri) (p q : Pt) (spokes : List (Mark Way)) (run : List (Mark ℕ)) →
+sum_at : (tris : List Tri) (p q : Pt) (spokes : List (Incidence Way)) (run : List (Incidence ℕ)) →
     at_point q spokes ≡ at_point q (spokes_at tris p run) → run ≡ at_point p (corners_of tris) →
     balance (at_point q spokes) ≢ pos 0 → (is_before p q ≡ true) × (balance (at_point q spokes) ≡ edge_sum tris p q)
 sum_at tris p q spokes run group all some = by (is_before p q) refl
@@ -187,10 +187,10 @@ sum_at tris p q spokes run group all some = by (is_before p q) refl
     by true before = (before, same ∙ spoke_sum-before tris p q before)
     by false upto = absurd (some (same ∙ spoke_sum-upto tris p q upto))
 
-rimming_joined : (tris : List Tri) (p : Pt) (corners rest run left : List (Mark ℕ)) (spokes : List (Mark Way))
+rimming_joined : (tris : List Tri) (p : Pt) (corners rest run left : List (Incidence ℕ)) (spokes : List (Incidence Way))
     (edges new : List Edge) (sums more : List ℤ) → IsRimming tris corners rest edges sums → StartsAt p rest →
     rest ≡ run ++ left → run ≡ at_point p rest →
-    All (λ (mark : Mark ℕ). is_before p mark.point ≡ true) left → IsByPoint left →
+    All (λ (incidence : Incidence ℕ). is_before p incidence.point ≡ true) left → IsByPoint left →
     ((q : Pt) → at_point q corners ≡ at_point q (corners_of tris)) →
     ((q : Pt) → at_point q spokes ≡ at_point q (spokes_at tris p run)) →
     IsRimAt p spokes new more → IsRimming tris corners left (edges ++ new) (sums ++ more)
@@ -235,10 +235,10 @@ rimming_joined tris p corners rest run left spokes edges new sums more so_far st
     ordered e f one other before = ap (λ o. ordering_then o (point_cmp e.v f.v)) (before-from_is_before e.u f.u before)
 
 -- the walk passes p, and gathers the edges of the rim at p
-pub rimming_step : (tris : List Tri) (p : Pt) (corners rest run left : List (Mark ℕ)) (spokes : List (Mark Way))
+pub rimming_step : (tris : List Tri) (p : Pt) (corners rest run left : List (Incidence ℕ)) (spokes : List (Incidence Way))
     (edges new : List Edge) (sums more : List ℤ) → IsRimming tris corners rest edges sums → StartsAt p rest →
     rest ≡ run ++ left → run ≡ at_point p rest →
-    All (λ (mark : Mark ℕ). is_before p mark.point ≡ true) left → IsByPoint left →
+    All (λ (incidence : Incidence ℕ). is_before p incidence.point ≡ true) left → IsByPoint left →
     ((q : Pt) → at_point q corners ≡ at_point q (corners_of tris)) →
     ((q : Pt) → at_point q spokes ≡ at_point q (spokes_at tris p run)) →
     IsRimAt p spokes new more → (grown : List Edge) (longer : List ℤ) → grown ≡ edges ++ new → longer ≡ sums ++ more →
@@ -246,7 +246,7 @@ pub rimming_step : (tris : List Tri) (p : Pt) (corners rest run left : List (Mar
 rimming_step tris p corners rest run left spokes edges new sums more so_far starts whole is later sorted groups named here grown longer pushed added =
     rw (pushed, added) (rimming_joined tris p corners rest run left spokes edges new sums more so_far starts whole is later sorted groups named here)
 
-pub rimming_end : (tris : List Tri) (corners rest : List (Mark ℕ)) (edges : List Edge) (sums : List ℤ) →
+pub rimming_end : (tris : List Tri) (corners rest : List (Incidence ℕ)) (edges : List Edge) (sums : List ℤ) →
     IsRimming tris corners rest edges sums → rest ≡ [] → IsRimOf tris edges sums
 rimming_end tris corners rest edges sums so_far done = record {
   ascending = so_far.walk.ascending;
@@ -256,7 +256,7 @@ rimming_end tris corners rest edges sums so_far done = record {
 }
 
 -- the sums at a point fit 32 bits
-pub sums_fit : (tris : List Tri) (p : Pt) (corners rest run : List (Mark ℕ)) (spokes : List (Mark Way))
+pub sums_fit : (tris : List Tri) (p : Pt) (corners rest run : List (Incidence ℕ)) (spokes : List (Incidence Way))
     (edges : List Edge) (sums : List ℤ) → IsRimming tris corners rest edges sums → StartsAt p rest → run ≡ at_point p rest →
     ((q : Pt) → at_point q corners ≡ at_point q (corners_of tris)) →
     ((q : Pt) → at_point q spokes ≡ at_point q (spokes_at tris p run)) →

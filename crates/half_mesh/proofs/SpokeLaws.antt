@@ -9,27 +9,28 @@ use Rattle.geom_core.specs.declared.points.Pt.{Pt}
 use Rattle.geom_core.specs.declared.triangles.Tri.{Tri}
 use Rattle.geom_core.specs.EdgeSum.{same_point, edges_of, edge_count, edge_sum}
 use Rattle.geom_core.proofs.EdgeSumLaws.{edge_count-one, edge_count-append, edge_count-none}
-use Rattle.half_mesh.specs.declared.marks.Mark.{Mark}
+use Rattle.half_mesh.specs.declared.incidences.Incidence.{Incidence}
 use Rattle.half_mesh.specs.declared.spokes.Way.{Way}
 use Rattle.half_mesh.specs.declared.spokes.Way.TheVariants.{Leaves, Arrives}
 use Rattle.half_mesh.specs.Around.{has_corner}
 use Rattle.half_mesh.specs.Corners.{corners_of}
-use Rattle.half_mesh.specs.Marks.{is_before, is_at, at_point}
+use Rattle.geom_core.specs.Order.{is_before}
+use Rattle.half_mesh.specs.Incidences.{is_at, at_point}
 use Rattle.half_mesh.specs.Spokes.{leaves, balance, spoke_of, spokes_of, named, spokes_at}
 use Rattle.half_mesh.proofs.CornerLaws.{triangles_around-is}
-use Rattle.half_mesh.proofs.PointLaws.{true≢false, same_point-from, same_point-before}
+use Rattle.geom_core.proofs.PointLaws.{true≢false, same_point-from, same_point-before}
 
 -- the edges that don't leave arrive
-pub balance-is : (spokes : List (Mark Way)) →
-    let leaving = count_by (λ (spoke : Mark Way). leaves spoke.what) spokes in
+pub balance-is : (spokes : List (Incidence Way)) →
+    let leaving = count_by (λ (spoke : Incidence Way). leaves spoke.what) spokes in
     (leaving ≤ length spokes) × (balance spokes ≡ pos leaving -ℤ pos (length spokes - leaving))
 unfolding balance
 balance-is spokes =
-    let all = length-filter_both (λ (spoke : Mark Way). leaves spoke.what) (λ (spoke : Mark Way). not (leaves spoke.what)) (λ spoke. refl) spokes in
-    let out = length-filter (λ (spoke : Mark Way). leaves spoke.what) spokes in
-    let back = length-filter (λ (spoke : Mark Way). not (leaves spoke.what)) spokes in
-    let rest : count_by (λ (spoke : Mark Way). not (leaves spoke.what)) spokes ≡ length spokes - count_by (λ (spoke : Mark Way). leaves spoke.what) spokes = omega arith in
-    (omega arith, ap (λ n. pos (count_by (λ (spoke : Mark Way). leaves spoke.what) spokes) -ℤ pos n) rest)
+    let all = length-filter_both (λ (spoke : Incidence Way). leaves spoke.what) (λ (spoke : Incidence Way). not (leaves spoke.what)) (λ spoke. refl) spokes in
+    let out = length-filter (λ (spoke : Incidence Way). leaves spoke.what) spokes in
+    let back = length-filter (λ (spoke : Incidence Way). not (leaves spoke.what)) spokes in
+    let rest : count_by (λ (spoke : Incidence Way). not (leaves spoke.what)) spokes ≡ length spokes - count_by (λ (spoke : Incidence Way). leaves spoke.what) spokes = omega arith in
+    (omega arith, ap (λ n. pos (count_by (λ (spoke : Incidence Way). leaves spoke.what) spokes) -ℤ pos n) rest)
 
 pub balance-none : balance [] ≡ pos 0
 unfolding balance
@@ -81,8 +82,8 @@ from_named all p n (t ∷ tris) is =
     by true here read rest = rw (here, read) (ap (λ l. spokes_of p t ++ l) rest)
     by false none read rest = rw (none, spokes_of-elsewhere p t none) rest
 
-by_whats : (f : ℕ → List (Mark Way)) (corners : List (Mark ℕ)) →
-    flat_map (λ (corner : Mark ℕ). f corner.what) corners ≡ flat_map f (map (λ (corner : Mark ℕ). corner.what) corners)
+by_whats : (f : ℕ → List (Incidence Way)) (corners : List (Incidence ℕ)) →
+    flat_map (λ (corner : Incidence ℕ). f corner.what) corners ≡ flat_map f (map (λ (corner : Incidence ℕ). corner.what) corners)
 by_whats f [] = refl
 by_whats f (corner ∷ corners) = ap (λ l. f corner.what ++ l) (by_whats f corners)
 
@@ -101,11 +102,11 @@ all_edges p (t ∷ tris) =
     ap (λ l. flat_map (spoke_of p) (edges_of t) ++ l) (all_edges p tris) ∙
     sym (flat_map-append (spoke_of p) (edges_of t) (flat_map edges_of tris))
 
-abbrev out_to : Pt → List (Mark Way) → ℕ
-out_to q spokes = count_by (λ (spoke : Mark Way). leaves spoke.what) (at_point q spokes)
+abbrev out_to : Pt → List (Incidence Way) → ℕ
+out_to q spokes = count_by (λ (spoke : Incidence Way). leaves spoke.what) (at_point q spokes)
 
-abbrev in_from : Pt → List (Mark Way) → ℕ
-in_from q spokes = count_by (λ (spoke : Mark Way). not (leaves spoke.what)) (at_point q spokes)
+abbrev in_from : Pt → List (Incidence Way) → ℕ
+in_from q spokes = count_by (λ (spoke : Incidence Way). not (leaves spoke.what)) (at_point q spokes)
 
 abbrev one_if : Bool → ℕ
 one_if b = cond b 1 0
@@ -185,11 +186,11 @@ counts p q before (e ∷ edges) =
     let rest = counts p q before edges in
     let here = one_edge p q e.0 e.1 before in
     let split = filter-append (is_at q) (spoke_of p e) (flat_map (spoke_of p) edges) in (
-      ap (count_by (λ (spoke : Mark Way). leaves spoke.what)) split ∙
-          sum_by-append (λ (spoke : Mark Way). one_if (leaves spoke.what)) (at_point q (spoke_of p e)) (at_point q (flat_map (spoke_of p) edges)) ∙
+      ap (count_by (λ (spoke : Incidence Way). leaves spoke.what)) split ∙
+          sum_by-append (λ (spoke : Incidence Way). one_if (leaves spoke.what)) (at_point q (spoke_of p e)) (at_point q (flat_map (spoke_of p) edges)) ∙
           rw (here.0, rest.0) (sym (sum_by-cons (λ (f : Pt × Pt). one_if (same_point f.0 p && same_point f.1 q)) e edges)),
-      ap (count_by (λ (spoke : Mark Way). not (leaves spoke.what))) split ∙
-          sum_by-append (λ (spoke : Mark Way). one_if (not (leaves spoke.what))) (at_point q (spoke_of p e)) (at_point q (flat_map (spoke_of p) edges)) ∙
+      ap (count_by (λ (spoke : Incidence Way). not (leaves spoke.what))) split ∙
+          sum_by-append (λ (spoke : Incidence Way). one_if (not (leaves spoke.what))) (at_point q (spoke_of p e)) (at_point q (flat_map (spoke_of p) edges)) ∙
           rw (here.1, rest.1) (sym (sum_by-cons (λ (f : Pt × Pt). one_if (same_point f.0 q && same_point f.1 p)) e edges)),
     )
 

@@ -16,19 +16,19 @@ use Rattle.std.specs.declared.cmp.Ordering.TheVariants.{Less, Equal, Greater}
 use Rattle.geom_core.specs.declared.points.Pt.{Pt}
 use Rattle.geom_core.specs.declared.triangles.Tri.{Tri}
 use Rattle.geom_core.specs.EdgeSum.{same_point, edge_count, edge_sum, is_rim_edge, OnRim}
-use Rattle.geom_core.specs.Order.{point_cmp}
+use Rattle.geom_core.specs.Order.{is_before, point_cmp}
 use Rattle.geom_core.proofs.EdgeSumLaws.{edge_sum-turned, edge_sum-same, is_rim_edge-turned}
 use Rattle.half_mesh.specs.declared.edges.Edge.{Edge}
-use Rattle.half_mesh.specs.declared.marks.Mark.{Mark}
+use Rattle.half_mesh.specs.declared.incidences.Incidence.{Incidence}
 use Rattle.half_mesh.specs.Around.{triangles_around}
 use Rattle.half_mesh.specs.Corners.{corners_of}
-use Rattle.half_mesh.specs.Marks.{is_before, at_point}
+use Rattle.half_mesh.specs.Incidences.{at_point}
 use Rattle.half_mesh.specs.Order.{edge_cmp}
 use Rattle.half_mesh.specs.Rim.{IsRimEdge, IsAscending, IsRimOf, sum_on}
 use Rattle.half_mesh.specs.Tables.{ends_of}
 use Rattle.half_mesh.proofs.CornerLaws.{triangles_around-is}
-use Rattle.half_mesh.proofs.PointLaws.{true≢false, point_cmp-total, same_point-is, same_point-from, before-from_is_before, is_before-itself, same_point-before, same_point-after, placed}
-use Rattle.half_mesh.proofs.PointLaws.Placed.{Before, Same, After}
+use Rattle.geom_core.proofs.PointLaws.{true≢false, point_cmp-total, same_point-is, same_point-from, before-from_is_before, is_before-itself, same_point-before, same_point-after, placed}
+use Rattle.geom_core.proofs.PointLaws.Placed.{Before, Same, After}
 use Rattle.half_mesh.proofs.RimLaws.{edge_of, rim_edge-some, rim_edge-from}
 use Rattle.half_mesh.proofs.SpokeLaws.{edge_count-bound}
 
@@ -203,14 +203,14 @@ sum_turned tris u v s upto is bound = turned_cast s bound ∙ elim (placed u v) 
 
 -- ---- the triangles round a point
 
-pub around_is : (tris : List Tri) (corners : List (Mark ℕ)) (numbers : List ℕ) (p : Pt) (from to : ℕ) →
-    numbers ≡ map (λ (corner : Mark ℕ). corner.what) corners →
+pub around_is : (tris : List Tri) (corners : List (Incidence ℕ)) (numbers : List ℕ) (p : Pt) (from to : ℕ) →
+    numbers ≡ map (λ (corner : Incidence ℕ). corner.what) corners →
     take (to - from) (drop from corners) ≡ at_point p corners →
     at_point p corners ≡ at_point p (corners_of tris) →
     take (to - from) (drop from numbers) ≡ triangles_around tris p
 around_is tris corners numbers p from to numbered group groups =
     ap (λ l. take (to - from) (drop from l)) numbered ∙
-    ap (take (to - from)) (drop-map (λ (corner : Mark ℕ). corner.what) from corners) ∙
-    take-map (λ (corner : Mark ℕ). corner.what) (to - from) (drop from corners) ∙
-    ap (map (λ (corner : Mark ℕ). corner.what)) (group ∙ groups) ∙
+    ap (take (to - from)) (drop-map (λ (corner : Incidence ℕ). corner.what) from corners) ∙
+    take-map (λ (corner : Incidence ℕ). corner.what) (to - from) (drop from corners) ∙
+    ap (map (λ (corner : Incidence ℕ). corner.what)) (group ∙ groups) ∙
     triangles_around-is p tris

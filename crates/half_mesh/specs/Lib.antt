@@ -1,6 +1,6 @@
 pub mod Around
 pub mod Corners
-pub mod Marks
+pub mod Incidences
 pub mod Order
 pub mod Rim
 pub mod Spokes

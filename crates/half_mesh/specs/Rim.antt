@@ -6,9 +6,9 @@ use Rattle.geom_core.specs.declared.points.Pt.{Pt}
 use Rattle.geom_core.specs.EdgeSum.{edge_sum, is_rim_edge}
 use Rattle.geom_core.specs.Order.{point_cmp}
 use Rattle.half_mesh.specs.declared.edges.Edge.{Edge}
-use Rattle.half_mesh.specs.declared.marks.Mark.{Mark}
+use Rattle.half_mesh.specs.declared.incidences.Incidence.{Incidence}
 use Rattle.half_mesh.specs.declared.spokes.Way.{Way}
-use Rattle.half_mesh.specs.Marks.{at_point}
+use Rattle.half_mesh.specs.Incidences.{at_point}
 use Rattle.half_mesh.specs.Order.{edge_cmp}
 use Rattle.half_mesh.specs.Spokes.{balance}
 
@@ -25,7 +25,7 @@ abbrev pub sum_on : List Tri → Edge → ℤ
 sum_on tris e = edge_sum tris e.u e.v
 
 -- the edges from p, with their sums, that don't cancel among the spokes at p
-pub record IsRimAt (p : Pt) (spokes : List (Mark Way)) (edges : List Edge) (sums : List ℤ) : Type 0 where
+pub record IsRimAt (p : Pt) (spokes : List (Incidence Way)) (edges : List Edge) (sums : List ℤ) : Type 0 where
   pub ascending : IsAscending edges
   pub sound : All (λ e. (e.u ≡ p) × (balance (at_point e.v spokes) ≢ pos 0)) edges
   pub complete : (q : Pt) → balance (at_point q spokes) ≢ pos 0 → Contains edges (record { u = p; v = q })

@@ -5,9 +5,9 @@ use Rattle.geom_core.specs.declared.points.Pt.{Pt}
 use Rattle.geom_core.specs.declared.triangles.Tri.{Tri}
 use Rattle.geom_core.specs.Order.{point_cmp}
 use Rattle.half_mesh.specs.declared.edges.Edge.{Edge}
-use Rattle.half_mesh.specs.declared.marks.Mark.{Mark}
+use Rattle.half_mesh.specs.declared.incidences.Incidence.{Incidence}
 use Rattle.half_mesh.specs.Corners.{corners_of}
-use Rattle.half_mesh.specs.Marks.{at_point, IsByPoint}
+use Rattle.half_mesh.specs.Incidences.{at_point, IsByPoint}
 use Rattle.half_mesh.specs.Rim.{IsRimOf}
 
 -- both points of each edge
@@ -15,9 +15,9 @@ abbrev pub ends_of : List Edge → List Pt
 ends_of edges = flat_map (λ e. e.u ∷ e.v ∷ []) edges
 
 -- the corners by point with their triangles' numbers, the rim with its sums, and the rim's points
-pub record IsTableOf (tris : List Tri) (corners : List (Mark ℕ)) (numbers : List ℕ) (edges : List Edge)
+pub record IsTableOf (tris : List Tri) (corners : List (Incidence ℕ)) (numbers : List ℕ) (edges : List Edge)
     (sums : List ℤ) (points : List Pt) : Type 0 where
-  pub few : length tris ≤ 2 ^ 30
+  pub triangle_limit : length tris ≤ 2 ^ 30
   pub sorted : IsByPoint corners
   pub groups : (p : Pt) → at_point p corners ≡ at_point p (corners_of tris)
   pub numbered : numbers ≡ map (λ corner. corner.what) corners

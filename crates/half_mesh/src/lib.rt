@@ -10,10 +10,10 @@
 
 mod corners;
 mod edges;
-mod marks;
+mod incidences;
 mod points;
 mod rims;
-mod searches;
+mod search;
 mod spokes;
 mod tables;
 #[cfg(test)]

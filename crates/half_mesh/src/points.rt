@@ -1,6 +1,6 @@
 ghost use Rattle.std.specs.Prelude.{◌≡◌, ◌&&◌, ◌||◌};
 ghost use Rattle.geom_core.specs.EdgeSum.{same_point};
-ghost use Rattle.half_mesh.specs.Marks.{is_before};
+ghost use Rattle.geom_core.specs.Order.{is_before};
 
 use geom_core::Pt;
 

@@ -2,12 +2,12 @@ ghost use Rattle.std.specs.Prelude.{◌≡◌, [], ◌≤◌, ◌^◌, OnOk, IfO
 ghost use Rattle.std.specs.Int.{w32};
 ghost use Rattle.geom_core.specs.declared.points.Pt.{Pt};
 ghost use Rattle.half_mesh.specs.Corners.{corners_of};
-ghost use Rattle.half_mesh.specs.Marks.{at_point, IsByPoint};
+ghost use Rattle.half_mesh.specs.Incidences.{at_point, IsByPoint};
 ghost use Rattle.half_mesh.specs.Rim.{IsRimAt, IsRimOf};
 ghost use Rattle.half_mesh.specs.Spokes.{balance, spokes_at};
 
 use crate::edges::Edge;
-use crate::marks::{Mark, sort_marks, split_run};
+use crate::incidences::{Incidence, sort_by_point, split_run};
 use crate::spokes::{Way, balance_of, push_named};
 use geom_core::{Memory, Pt, Tri};
 use std::alloc::Global;
@@ -38,7 +38,12 @@ impl Rim {
 }
 
 /// Puts the edges that join `p` with a later point in place of what `spokes` holds, by that point.
-fn gather(spokes: &mut Vec<Mark<Way>>, tris: &[Tri], fan: &[Mark<u32>], p: Pt) -> Result<(), Memory>
+fn gather(
+    spokes: &mut Vec<Incidence<Way>>,
+    tris: &[Tri],
+    fan: &[Incidence<u32>],
+    p: Pt,
+) -> Result<(), Memory>
     ensures sorted { OnOk result (IsByPoint spokes.new.items) }
     ensures groups { OnOk result ((q : Pt) →
         at_point q spokes.new.items ≡ at_point q (spokes_at tris.now p fan.now)) }
@@ -47,12 +52,12 @@ fn gather(spokes: &mut Vec<Mark<Way>>, tris: &[Tri], fan: &[Mark<u32>], p: Pt) -
     for corner in fan {
         push_named(spokes, tris, corner.what, p)?;
     }
-    sort_marks(spokes)?;
+    sort_by_point(spokes)?;
     Ok(())
 }
 
 /// Puts the edges from `p` that don't cancel in place of what `rim` holds.
-fn fill_rim(rim: &mut Rim, p: Pt, spokes: &[Mark<Way>]) -> Result<(), Memory>
+fn fill_rim(rim: &mut Rim, p: Pt, spokes: &[Incidence<Way>]) -> Result<(), Memory>
     requires sorted { IsByPoint spokes.now }
     requires small { (q : Pt) → FitsSigned w32 (balance (at_point q spokes.now)) }
     ensures { OnOk result (IsRimAt p spokes.now rim.new.edges.items rim.new.sums.items) }
@@ -74,8 +79,8 @@ fn fill_rim(rim: &mut Rim, p: Pt, spokes: &[Mark<Way>]) -> Result<(), Memory>
 }
 
 /// The rim of the triangles, from their corners by point.
-pub(crate) fn rim_of(alloc: Global, tris: &[Tri], corners: &[Mark<u32>]) -> Result<Rim, Memory>
-    requires few { length tris.now ≤ 2 ^ 30 }
+pub(crate) fn rim_of(alloc: Global, tris: &[Tri], corners: &[Incidence<u32>]) -> Result<Rim, Memory>
+    requires triangle_limit { length tris.now ≤ 2 ^ 30 }
     requires sorted { IsByPoint corners.now }
     requires groups { (p : Pt) → at_point p corners.now ≡ at_point p (corners_of tris.now) }
     ensures { IfOk result (λ rim. IsRimOf tris.now rim.edges.items rim.sums.items) }

@@ -1,7 +1,7 @@
 ghost use Rattle.std.specs.Prelude.{◌≡◌, ◌++◌, OnOk, count_by};
 ghost use Rattle.half_mesh.specs.Spokes.{leaves, named, spoke_of, spokes_of, balance};
 
-use crate::marks::Mark;
+use crate::incidences::Incidence;
 use crate::points::is_and_precedes;
 use geom_core::{Memory, Pt, Tri};
 
@@ -15,16 +15,16 @@ pub(crate) enum Way {
 }
 
 /// Adds the edge from `from` to `to` if it joins `p` with a later point.
-fn push_spoke(spokes: &mut Vec<Mark<Way>>, p: Pt, from: Pt, to: Pt) -> Result<(), Memory>
+fn push_spoke(spokes: &mut Vec<Incidence<Way>>, p: Pt, from: Pt, to: Pt) -> Result<(), Memory>
     ensures { OnOk result (spokes.new.items ≡ spokes.old.items ++ spoke_of p (from, to)) }
 {
     if is_and_precedes(from, p, to) {
-        spokes.push(Mark {
+        spokes.push(Incidence {
             point: to,
             what: Way::Leaves,
         })?;
     } else if is_and_precedes(to, p, from) {
-        spokes.push(Mark {
+        spokes.push(Incidence {
             point: from,
             what: Way::Arrives,
         })?;
@@ -33,7 +33,7 @@ fn push_spoke(spokes: &mut Vec<Mark<Way>>, p: Pt, from: Pt, to: Pt) -> Result<()
 }
 
 /// Adds the edges of a triangle that join `p` with a later point.
-fn push_spokes(spokes: &mut Vec<Mark<Way>>, p: Pt, tri: Tri) -> Result<(), Memory>
+fn push_spokes(spokes: &mut Vec<Incidence<Way>>, p: Pt, tri: Tri) -> Result<(), Memory>
     ensures { OnOk result (spokes.new.items ≡ spokes.old.items ++ spokes_of p tri) }
 {
     push_spoke(spokes, p, tri.a, tri.b)?;
@@ -44,7 +44,7 @@ fn push_spokes(spokes: &mut Vec<Mark<Way>>, p: Pt, tri: Tri) -> Result<(), Memor
 
 /// Adds those of the triangle with this number.
 pub(crate) fn push_named(
-    spokes: &mut Vec<Mark<Way>>,
+    spokes: &mut Vec<Incidence<Way>>,
     tris: &[Tri],
     number: u32,
     p: Pt,
@@ -70,14 +70,14 @@ impl Way {
 }
 
 /// How many edges leave.
-fn count_leaving(spokes: &[Mark<Way>]) -> usize
+fn count_leaving(spokes: &[Incidence<Way>]) -> usize
     ensures { result ≡ count_by (λ spoke. leaves spoke.what) spokes.now }
 {
     spokes.iter().filter(|spoke| spoke.what.leaves()).count()
 }
 
 /// How many edges leave less how many arrive.
-pub(crate) fn balance_of(spokes: &[Mark<Way>]) -> i64
+pub(crate) fn balance_of(spokes: &[Incidence<Way>]) -> i64
     ensures { result ≡ balance spokes.now }
 {
     let leave = count_leaving(spokes);

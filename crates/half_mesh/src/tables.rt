@@ -5,16 +5,16 @@ ghost use Rattle.geom_core.specs.EdgeSum.{edge_sum, OnRim};
 ghost use Rattle.geom_core.specs.Order.{point_cmp};
 ghost use Rattle.half_mesh.specs.declared.edges.Edge.{Edge};
 ghost use Rattle.half_mesh.specs.Around.{triangles_around};
-ghost use Rattle.half_mesh.specs.Marks.{is_before};
+ghost use Rattle.geom_core.specs.Order.{is_before};
 ghost use Rattle.half_mesh.specs.Rim.{IsAscending, IsRimEdge};
 ghost use Rattle.half_mesh.specs.Tables.{ends_of};
 
 use crate::corners::sorted_corners;
 use crate::edges::Edge;
-use crate::marks::{Mark, range_at};
+use crate::incidences::{Incidence, range_at};
 use crate::points::precedes;
 use crate::rims::{Rim, rim_of};
-use crate::searches::place_of;
+use crate::search::position_of;
 use geom_core::{Memory, Pt, Tri};
 use std::alloc::Global;
 use std::marker::Model;
@@ -23,7 +23,7 @@ use std::marker::Model;
 #[derive(Drop)]
 pub struct EdgeTable<'a> {
     tris: &'a [Tri],
-    corners: Vec<Mark<u32>>,
+    corners: Vec<Incidence<u32>>,
     numbers: Vec<u32>,
     rim: Rim,
     rim_points: Vec<Pt>,
@@ -74,10 +74,10 @@ impl<'a> EdgeTable<'a> {
 
     /// The sum from `u` to `v` where `u` comes first, and else 0.
     fn sum_ahead(&self, u: Pt, v: Pt) -> i32
-        ensures value { result ≡ (if is_before u v then edge_sum self.now u v else pos 0) }
-        ensures bound { unsigned_abs result ≤ 2 ^ 30 }
+        ensures sum { result ≡ (if is_before u v then edge_sum self.now u v else pos 0) }
+        ensures sum_range { unsigned_abs result ≤ 2 ^ 30 }
     {
-        match place_of(&self.rim.edges, &Edge { u, v }) {
+        match position_of(&self.rim.edges, &Edge { u, v }) {
             Some(place) => self.rim.sums[place],
             None => 0,
         }
@@ -95,7 +95,7 @@ impl<'a> EdgeTable<'a> {
     pub fn on_rim(&self, p: Pt) -> bool
         ensures { IsTrue result ↔ OnRim self.now p }
     {
-        place_of(&self.rim_points, &p).is_some()
+        position_of(&self.rim_points, &p).is_some()
     }
 
     /// The triangles with corner `p`, by their places in the list, ascending.
@@ -108,7 +108,7 @@ impl<'a> EdgeTable<'a> {
 }
 
 /// The numbers of the triangles at the corners, in the corners' order.
-fn numbers_of(alloc: Global, corners: &[Mark<u32>]) -> Result<Vec<u32>, Memory>
+fn numbers_of(alloc: Global, corners: &[Incidence<u32>]) -> Result<Vec<u32>, Memory>
     ensures { IfOk result (λ numbers. numbers.items ≡ map (λ corner. corner.what) corners.now) }
 {
     let numbers = corners.iter().map(|corner| corner.what).collect(alloc)?;

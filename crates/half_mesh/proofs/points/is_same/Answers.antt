@@ -1,5 +1,5 @@
 use Rattle.std.proofs.Common.{◌∙◌}
-use Rattle.half_mesh.proofs.PointLaws.{derived_eq-is}
+use Rattle.geom_core.proofs.PointLaws.{derived_eq-is}
 use Rattle.half_mesh.proofs.points.is_same.Goals as goal
 
 pub returns : goal.returns

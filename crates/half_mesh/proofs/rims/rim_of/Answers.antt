@@ -1,5 +1,5 @@
 use Rattle.std.proofs.Common.{◌++◌, ap, sym, ◌∙◌}
-use Rattle.half_mesh.specs.Marks.{at_point}
+use Rattle.half_mesh.specs.Incidences.{at_point}
 use Rattle.half_mesh.proofs.RimLaws.{starts_from_first, rimming_start, rimming_step, sums_fit}
 use Rattle.half_mesh.proofs.rims.rim_of.Goals as goal
 
@@ -14,7 +14,7 @@ fill_rim-requires-clause-small c =
     (sums_fit c.args.tris.now c.in-Some.first.now.point c.args.corners.now c.loop-first.rest.now c.split_run.result.0.now
     c.gather.new.spokes.items c.loop-first.rim.edges.items c.loop-first.rim.sums.items c.loop-first.invariant
     (starts_from_first c.loop-first.rest.now c.in-Some.first.now (sym c.in-Some.ensures.value)) c.split_run.ensures.run
-    c.requires.groups c.in_ok-gather.ensures.groups c.requires.few)
+    c.requires.groups c.in_ok-gather.ensures.groups c.requires.triangle_limit)
 
 pub loop-first-preserved : goal.loop-first-preserved
 loop-first-preserved c =

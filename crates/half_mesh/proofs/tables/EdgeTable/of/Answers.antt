@@ -8,7 +8,7 @@ invariant_of-result c =
     let moved : IsPermutation (ends_of c.in_ok-rim.rim.edges.items) c.in_ok-rim_points.rim_points.items =
     rw c.deref-2.ensures.value at c.in_ok-rim_points.ensures.all in
     record {
-      few = c.requires;
+      triangle_limit = c.requires;
       sorted = c.in_ok-corners.ensures.sorted;
       groups = c.in_ok-corners.ensures.groups;
       numbered = rw c.deref-3.ensures.value at c.in_ok-numbers.ensures;

@@ -7,9 +7,9 @@ use Rattle.half_mesh.proofs.tables.EdgeTable.on_rim.Goals as goal
 
 pub returns : goal.returns
 returns c =
-    let place : (is_some c.place_of.result ≡ true) ↔ Contains c.deref.result.now c.args.p =
-    place_holds c.deref.result.now c.args.p c.place_of.result c.place_of.ensures.place c.place_of.ensures.found c.place_of.ensures.absent in
-    let here : (is_some c.place_of.result ≡ true) ↔ Contains c.self.inside.rim_points.items c.args.p =
+    let place : (is_some c.position_of.result ≡ true) ↔ Contains c.deref.result.now c.args.p =
+    place_holds c.deref.result.now c.args.p c.position_of.result c.position_of.ensures.place c.position_of.ensures.found c.position_of.ensures.absent in
+    let here : (is_some c.position_of.result ≡ true) ↔ Contains c.self.inside.rim_points.items c.args.p =
     rw c.deref.ensures.value at place in
     let ends = c.self.invariant.on_rim c.args.p in
     let rim : Contains (ends_of c.self.inside.rim.edges.items) c.args.p ↔ OnRim c.args.self.now c.args.p =

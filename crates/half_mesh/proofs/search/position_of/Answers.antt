@@ -1,6 +1,6 @@
 use Rattle.std.proofs.lemmas.List.Sorted.{searchable_from_sorted}
 use Rattle.half_mesh.proofs.TableLaws.{searched_none}
-use Rattle.half_mesh.proofs.searches.place_of.Goals as goal
+use Rattle.half_mesh.proofs.search.position_of.Goals as goal
 
 pub returns-clause-absent : goal.returns-clause-absent
 returns-clause-absent g c =
