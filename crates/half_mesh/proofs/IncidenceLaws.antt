@@ -15,7 +15,7 @@ use Rattle.geom_core.specs.declared.points.Pt.{Pt}
 use Rattle.geom_core.specs.EdgeSum.{same_point}
 use Rattle.geom_core.specs.Order.{is_before, point_cmp}
 use Rattle.half_mesh.specs.declared.incidences.Incidence.{Incidence}
-use Rattle.half_mesh.specs.Incidences.{is_at, at_point, IsByPoint, StartsAt}
+use Rattle.half_mesh.specs.Incidences.{is_at, at_point, IsByPoint}
 use Rattle.geom_core.proofs.PointLaws.{true≢false, not_both, before-from_is_before, is_before-trans, point_cmp-total, same_point-is, same_point-before, same_point-after, same_point-refl, is_before-itself, placed}
 use Rattle.geom_core.proofs.PointLaws.Placed.{Before, Same, After}
 
@@ -180,81 +180,3 @@ range_is {T} p incidences from to low high from_in to_in = (ordered incidences l
         (filter-append (is_at p) (take (to - from) (drop from incidences)) (drop to incidences) ∙
         rw (filter-all (is_at p) (take (to - from) (drop from incidences)) middle, filter-no (is_at p) (drop to incidences) back)
         (append-nil (take (to - from) (drop from incidences)))))
-
--- the incidences at the first one's point stand in front, and the others lie later
-pub record IsRun {T : Type 0} (p : Pt) (incidences : List (Incidence T)) (n : ℕ) : Type 0 where
-  pub run : take n incidences ≡ at_point p incidences
-  pub later : All (λ (incidence : Incidence T). is_before p incidence.point ≡ true) (drop n incidences)
-
--- no incidence before p
-abbrev pub IsFrom : {T : Type 0} → Pt → List (Incidence T) → Type 0
-IsFrom {T} p incidences = All (λ (incidence : Incidence T). is_before incidence.point p ≡ false) incidences
-
-run_is : {T : Type 0} (p : Pt) (incidences : List (Incidence T)) → IsByPoint incidences → IsFrom p incidences →
-    IsRun p incidences (prefix_len (is_at p) incidences)
-run_is {T} p [] sorted from = record { run = refl; later = All-nil (λ (incidence : Incidence T). is_before p incidence.point ≡ true) }
-run_is {T} p (m ∷ ms) sorted from = elim (placed p m.point) [
-  | Before h ↦
-      let apart : is_at p m ≡ false = same_point-after m.point p h in
-      let after : All (λ (incidence : Incidence T). is_before p incidence.point ≡ true) (m ∷ ms) = later h in
-      let none : at_point p ms ≡ [] = filter-no (is_at p) ms (λ k d in_ms. same_point-after _ p (after (suc k) d (omega arith))) in
-      record {
-        run = rw (apart) (sym none);
-        later = rw apart after;
-      }
-  | Same h ↦
-      let here : is_at p m ≡ true = same_point-refl m.point p (sym h) in
-      let rest : IsRun p ms (prefix_len (is_at p) ms) = run_is p ms (IsByPoint-tail m ms sorted) (λ k d in_ms. from (suc k) d (omega arith)) in
-      record {
-        run = rw (here, one-add) (ap (λ l. m ∷ l) rest.run);
-        later = rw (here, one-add) rest.later;
-      }
-  | After h ↦ absurd (true≢false (sym h ∙ All-head (λ (incidence : Incidence T). is_before incidence.point p ≡ false) m ms from))
-]
-  where
-    IsByPoint-tail : (m : Incidence T) (ms : List (Incidence T)) → IsByPoint (m ∷ ms) → IsByPoint ms
-    IsByPoint-tail m ms sorted k d low high =
-        let next : suc k + 1 ≡ suc (k + 1) = omega arith in
-        rw next at (sorted (suc k) d (omega arith) (omega arith))
-
-    later : is_before p m.point ≡ true → All (λ (incidence : Incidence T). is_before p incidence.point ≡ true) (m ∷ ms)
-    later h k d in_bounds = reach _ (sorted_later (m ∷ ms) sorted 0 k d (omega arith) in_bounds)
-      where
-        reach : (q : Pt) → is_before q m.point ≡ false → is_before p q ≡ true
-        reach q upto = elim (placed p q) [
-          | Before e ↦ e
-          | Same e ↦ absurd (true≢false (sym h ∙ ap (λ v. is_before v m.point) e ∙ upto))
-          | After e ↦ absurd (true≢false (sym (is_before-trans q p m.point e h) ∙ upto))
-        ]
-
-from_start : {T : Type 0} (p : Pt) (incidences : List (Incidence T)) → IsByPoint incidences → StartsAt p incidences → IsFrom p incidences
-from_start p [] sorted starts = absurd starts
-from_start {T} p (m ∷ ms) sorted starts = λ k d in_bounds.
-    ap (λ v. is_before (get_or (m ∷ ms) k d).point v) (sym starts) ∙ sorted_later (m ∷ ms) sorted 0 k d (omega arith) in_bounds
-
-pub run_at_start : {T : Type 0} (p : Pt) (incidences : List (Incidence T)) → IsByPoint incidences → StartsAt p incidences →
-    IsRun p incidences (prefix_len (is_at p) incidences)
-run_at_start p incidences sorted starts = run_is p incidences sorted (from_start p incidences sorted starts)
-
-pub run_some : {T : Type 0} (p : Pt) (incidences : List (Incidence T)) → StartsAt p incidences →
-    (0 < prefix_len (is_at p) incidences) × (0 < length incidences)
-run_some p [] starts = absurd starts
-run_some p (m ∷ ms) starts = rw (same_point-refl m.point p starts) (omega arith, omega arith)
-
--- a loop over incidences while they lie at p
-pub run_stops : {T : Type 0} (p : Pt) (incidences : List (Incidence T)) (i : ℕ) (incidence : Incidence T) → i < length incidences →
-    incidence ≡ get_or incidences i incidence → same_point incidence.point p ≡ false →
-    prefix_len (is_at p) incidences ≡ i + prefix_len (is_at p) (drop i incidences) → i ≡ prefix_len (is_at p) incidences
-run_stops p incidences i incidence in_bounds read apart so_far =
-    let here : is_at p (get_or incidences i incidence) ≡ false = ap (is_at p) (sym read) ∙ apart in
-    let stop = prefix_len-drop_no (is_at p) incidences i incidence in_bounds here in
-    omega (arith, stop)
-
-pub run_goes_on : {T : Type 0} (p : Pt) (incidences : List (Incidence T)) (i : ℕ) (incidence : Incidence T) → i < length incidences →
-    incidence ≡ get_or incidences i incidence → same_point incidence.point p ≡ true →
-    prefix_len (is_at p) incidences ≡ i + prefix_len (is_at p) (drop i incidences) →
-    prefix_len (is_at p) incidences ≡ (i + 1) + prefix_len (is_at p) (drop (i + 1) incidences)
-run_goes_on p incidences i incidence in_bounds read same so_far =
-    let here : is_at p (get_or incidences i incidence) ≡ true = ap (is_at p) (sym read) ∙ same in
-    let more = prefix_len-drop_yes (is_at p) incidences i incidence in_bounds here in
-    omega (arith, more)

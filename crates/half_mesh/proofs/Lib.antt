@@ -1,7 +1,7 @@
 pub mod CornerLaws
-pub mod ListLaws
+pub mod EdgeLaws
 pub mod IncidenceLaws
+pub mod ListLaws
 pub mod RimLaws
-pub mod SpokeLaws
 pub mod TableLaws
-pub mod Walks
+pub mod TermLaws

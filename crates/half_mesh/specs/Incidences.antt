@@ -17,8 +17,3 @@ at_point p incidences = filter (is_at p) incidences
 -- no incidence lies before the one that it follows
 abbrev pub IsByPoint : {T : Type 0} → List (Incidence T) → Type 0
 IsByPoint {T} incidences = IsSortedByKey (λ (incidence : Incidence T). incidence.point) point_cmp incidences
-
--- there is a first incidence, and it lies at p
-abbrev pub StartsAt : {T : Type 0} → Pt → List (Incidence T) → Type 0
-StartsAt p [] = ⊥
-StartsAt p (incidence ∷ incidences) = incidence.point ≡ p

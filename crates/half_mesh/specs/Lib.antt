@@ -3,5 +3,5 @@ pub mod Corners
 pub mod Incidences
 pub mod Order
 pub mod Rim
-pub mod Spokes
+pub mod Terms
 pub mod Tables

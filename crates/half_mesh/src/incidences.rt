@@ -1,13 +1,10 @@
-ghost use Rattle.std.specs.Prelude.{◌≡◌, ◌≤◌, ◌-◌, ◌<◌, ◌++◌, true, OnOk, All, length, take, drop};
-ghost use Rattle.std.specs.List.{prefix_len};
+ghost use Rattle.std.specs.Prelude.{◌≡◌, ◌≤◌, ◌-◌, OnOk, length, take, drop};
 ghost use Rattle.geom_core.specs.declared.points.Pt.{Pt};
-ghost use Rattle.geom_core.specs.Order.{is_before};
-ghost use Rattle.half_mesh.specs.Incidences.{at_point, is_at, IsByPoint, StartsAt};
+ghost use Rattle.half_mesh.specs.Incidences.{at_point, IsByPoint};
 
 use geom_core::{Memory, Pt};
 
-/// Something that lies at a point: the number of a triangle at its corner, or the way of an edge at its
-/// other end.
+/// Something that lies at a point, as the number of a triangle at each of its corners.
 #[derive(Clone, Copy, Debug)]
 pub(crate) struct Incidence<T> {
     /// Where it lies.
@@ -34,29 +31,4 @@ pub(crate) fn range_at<T>(incidences: &[Incidence<T>], p: Pt) -> (usize, usize)
     let from = incidences.partition_point(|incidence| incidence.point < p);
     let to = incidences.partition_point(|incidence| incidence.point <= p);
     (from, to)
-}
-
-/// How many incidences from the first on lie at `p`.
-fn run_len<T>(incidences: &[Incidence<T>], p: Pt) -> usize
-    ensures { result ≡ prefix_len (is_at p) incidences.now }
-{
-    for (place, incidence) in incidences.iter().enumerate() {
-        if incidence.point != p {
-            return place;
-        }
-    }
-    incidences.len()
-}
-
-/// Parts the incidences at the first one's point `p` from the later ones.
-pub(crate) fn split_run<T>(incidences: &[Incidence<T>], p: Pt) -> (&[Incidence<T>], &[Incidence<T>])
-    requires sorted { IsByPoint incidences.now }
-    requires starts { StartsAt p incidences.now }
-    ensures whole { incidences.now ≡ result.0.now ++ result.1.now }
-    ensures run { result.0.now ≡ at_point p incidences.now }
-    ensures later { All (λ incidence. is_before p incidence.point ≡ true) result.1.now }
-    ensures sorted { IsByPoint result.1.now }
-    ensures fewer { length result.1.now < length incidences.now }
-{
-    incidences.split_at(run_len(incidences, p))
 }
