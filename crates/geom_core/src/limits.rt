@@ -1,4 +1,4 @@
-//! The limits of meshes, cameras, pictures, clusters, pages and texts. Each number stands here once, with its
+//! The limits of meshes, cameras, pictures, clusters, pages and texts. Each number is defined here once, with its
 //! unit and its reason; a number that follows from others is written as its expression.
 
 /// Most triangles of a source mesh. Each level of detail has at most seven eighths of the triangles of the
