@@ -1,9 +1,8 @@
 -- Worked examples of distances, boxes and moved triangles, computed by the checker.
-use Rattle.std.specs.Prelude.{◌≡◌, ℕ, ℤ, pos, neg_ℤ, true, false, Some, None, List, [], ◌∷◌, refl}
+use Rattle.std.specs.Prelude.{◌≡◌, ℕ, ℤ, pos, neg_ℤ, true, false, Some, None, [], ◌∷◌, refl}
 use Rattle.geom_core.specs.declared.points.Pt.{Pt}
 use Rattle.geom_core.specs.declared.boxes.Cube.{Cube}
 use Rattle.geom_core.specs.declared.triangles.Tri.{Tri}
-use Rattle.geom_core.specs.declared.triangles.Tagged.{Tagged}
 use Rattle.geom_core.specs.Distance.{distance, outside, box_distance}
 use Rattle.geom_core.specs.Boxes.{is_under, holds_point, holds_box, low_of, high_of, join_of, point_box, hull_of}
 use Rattle.geom_core.specs.Shift.{shift_of}

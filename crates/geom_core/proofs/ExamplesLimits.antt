@@ -4,8 +4,6 @@ use Rattle.std.proofs.Common.{arith}
 use Rattle.std.proofs.lemmas.List.Elements.{All-nil, All-cons, All-head}
 use Rattle.geom_core.specs.declared.points.Pt.{Pt}
 use Rattle.geom_core.specs.declared.triangles.Tri.{Tri}
-use Rattle.geom_core.specs.declared.screens.Spot.{Spot}
-use Rattle.geom_core.specs.declared.screens.Size.{Size}
 use Rattle.geom_core.specs.EdgeSum.{same_point}
 use Rattle.geom_core.specs.Limits.{is_point_within, is_grid_coordinate, is_grid_point, has_grid_corners}
 use Rattle.geom_core.specs.Limits.{has_distinct_corners, is_grid_triangle, IsGridTriangle, AreGridTriangles}

@@ -1,5 +1,5 @@
 -- Worked examples of winding, depth and coverage, computed by the checker.
-use Rattle.std.specs.Prelude.{◌≡◌, ℕ, ℤ, pos, neg_ℤ, true, false, List, [], ◌∷◌, refl}
+use Rattle.std.specs.Prelude.{◌≡◌, ℕ, ℤ, pos, neg_ℤ, true, false, [], ◌∷◌, refl}
 use Rattle.geom_core.specs.declared.screens.Spot.{Spot}
 use Rattle.geom_core.specs.declared.screens.Size.{Size}
 use Rattle.geom_core.specs.Winding.{edge_function, passes, crossing, winding}

@@ -1,4 +1,4 @@
-//! Laws of distances and boxes, as functions without a body: each clause holds for all that it names.
+//! Laws of distances and boxes, as functions without a body: each clause holds for all values that it names.
 
 ghost use Rattle.std.specs.Prelude.{◌≡◌, ◌+◌, ◌≤◌, All, IfSome, IsTrue, List};
 ghost use Rattle.geom_core.specs.declared.boxes.Cube.{Cube};
@@ -8,7 +8,7 @@ ghost use Rattle.geom_core.specs.Boxes.{holds_box, holds_point, hull_of, is_unde
 ghost use Rattle.geom_core.specs.Distance.{box_distance, distance};
 ghost use Rattle.geom_core.specs.Shift.{shift_of};
 
-/// The distance is a metric: it is 0 exactly between equal points, symmetric, and no way round is shorter.
+/// The Chebyshev distance is a metric: 0 exactly between equal points, symmetric, and never shortened by a detour.
 pub fn distance_is_a_metric()
     ensures zero { (p : Pt) → distance p p ≡ 0 }
     ensures equal { (p q : Pt) → distance p q ≡ 0 → p ≡ q }
@@ -16,13 +16,13 @@ pub fn distance_is_a_metric()
     ensures triangle { (p q r : Pt) → distance p r ≤ distance p q + distance q r }
 {}
 
-/// Shifts add up: a triangle that was moved twice was moved at most by both shifts together.
+/// Shifts are bounded by their sum: a triangle moved twice is moved by at most both shifts together.
 pub fn shifts_add_up()
     ensures zero { (t : Tri) → shift_of t t ≡ 0 }
     ensures triangle { (t u v : Tri) → shift_of t v ≤ shift_of t u + shift_of u v }
 {}
 
-/// Holding is an order, and a box holds the points of each box that it holds.
+/// Containment is reflexive and transitive, and a box holds the points of each box that it holds.
 pub fn boxes_in_boxes()
     ensures itself { (box : Cube) → IsTrue (holds_box box box) }
     ensures chain { (a b c : Cube) → IsTrue (holds_box a b) → IsTrue (holds_box b c) →
@@ -31,8 +31,7 @@ pub fn boxes_in_boxes()
         IsTrue (holds_point inner p) → IsTrue (holds_point outer p) }
 {}
 
-/// A join is the least box that holds both. Its low corner is under its high one if that of the first
-/// box is.
+/// A join is the smallest box that holds both. Its corners are in order if those of the first box are.
 pub fn joins_are_least_boxes()
     ensures first { (a b : Cube) → IsTrue (holds_box (join_of a b) a) }
     ensures second { (a b : Cube) → IsTrue (holds_box (join_of a b) b) }
@@ -42,7 +41,7 @@ pub fn joins_are_least_boxes()
         IsTrue (is_under (join_of a b).lo (join_of a b).hi) }
 {}
 
-/// A hull is the least box that holds the points, and its low corner is under its high one.
+/// A hull is the smallest box that holds the points, and its corners are in order.
 pub fn hulls_are_least_boxes()
     ensures each { (points : List Pt) →
         IfSome (hull_of points) (λ box. All (λ p. IsTrue (holds_point box p)) points) }
@@ -53,7 +52,7 @@ pub fn hulls_are_least_boxes()
         IfSome (hull_of points) (λ box. IsTrue (is_under box.lo box.hi)) }
 {}
 
-/// The distance from a box is that from its nearest point, so it is 0 from a point in it.
+/// The distance from a box is that from its nearest point, if there is a point in the box.
 pub fn box_distance_is_from_the_nearest_point()
     ensures least { (box : Cube) (p q : Pt) → IsTrue (holds_point box q) →
         box_distance box p ≤ distance q p }
@@ -62,8 +61,8 @@ pub fn box_distance_is_from_the_nearest_point()
     ensures zero { (box : Cube) (p : Pt) → IsTrue (holds_point box p) → box_distance box p ≡ 0 }
 {}
 
-/// Of two boxes, the one that holds the other is no further from any point. The inner one's low corner
-/// must be under its high one; the outer one's then is too.
+/// Of two boxes, the one that holds the other is no further from any point. The inner box's corners must be in
+/// order; the outer one's then are too.
 pub fn outer_boxes_are_no_further()
     ensures { (outer inner : Cube) (p : Pt) → IsTrue (is_under inner.lo inner.hi) →
         IsTrue (holds_box outer inner) → box_distance outer p ≤ box_distance inner p }

@@ -4,9 +4,9 @@ ghost use Rattle.geom_core.specs.Distance.{box_distance, outside};
 
 use crate::points::Pt;
 
-/// An axis-aligned bounding box (AABB), with its faces: the points from `lo` to `hi` on each axis.
+/// An axis-aligned bounding box (AABB), faces included: the points from `lo` to `hi` on each axis.
 ///
-/// Nothing holds `lo` under `hi`; where it is not, the box has no point.
+/// The type does not require `lo` to be at most `hi` on each axis; if it is not, no point is in the box.
 #[derive(Clone, Copy, Debug, PartialEq, Eq)]
 pub struct Cube {
     /// The corner of least x, y and z.
@@ -15,7 +15,7 @@ pub struct Cube {
     pub hi: Pt,
 }
 
-/// The least of the coordinates of two points, by axis.
+/// Returns the lesser coordinate of the two points on each axis.
 fn low(p: Pt, q: Pt) -> Pt
     ensures { result ≡ low_of p q }
 {
@@ -26,7 +26,7 @@ fn low(p: Pt, q: Pt) -> Pt
     }
 }
 
-/// The greatest of the coordinates of two points, by axis.
+/// Returns the greater coordinate of the two points on each axis.
 fn high(p: Pt, q: Pt) -> Pt
     ensures { result ≡ high_of p q }
 {
@@ -45,7 +45,7 @@ fn is_under(p: Pt, q: Pt) -> bool
     p.x <= q.x && p.y <= q.y && p.z <= q.z
 }
 
-/// How far a coordinate lies outside those from `lo` to `hi`.
+/// Returns how far a coordinate lies outside the range from `lo` to `hi`; 0 within it.
 #[tactic(auto, unfolding(crate::specs::Distance::outside))]
 fn outside(lo: i32, hi: i32, v: i32) -> u32
     ensures { result ≡ outside lo hi v }
@@ -66,7 +66,7 @@ fn point_box(p: Pt) -> Cube
     Cube { lo: p, hi: p }
 }
 
-/// Returns the least box that holds the box and the points.
+/// Returns the smallest box that holds the box and the points.
 fn widened(start: Cube, points: &[Pt]) -> Cube
     ensures { result ≡ fold (λ box q. join_of box (point_box q)) start points.now }
 {
@@ -78,7 +78,7 @@ fn widened(start: Cube, points: &[Pt]) -> Cube
 }
 
 impl Cube {
-    /// Returns the least box that holds the points; none if there is no point.
+    /// Returns the smallest box that holds the points, or `None` if there is no point.
     pub fn hull(points: &[Pt]) -> Option<Cube>
         ensures hull { result ≡ hull_of points.now }
     {
@@ -86,7 +86,7 @@ impl Cube {
         Some(widened(point_box(*first), rest))
     }
 
-    /// Returns the least box that holds both.
+    /// Returns the smallest box that holds both boxes.
     #[tactic(auto, unfolding(crate::specs::Boxes::join_of))]
     pub fn join(self, other: Cube) -> Cube
         ensures join { result ≡ join_of self other }
@@ -97,7 +97,7 @@ impl Cube {
         }
     }
 
-    /// Whether the other box's corners lie in this one, faces included.
+    /// Whether the other box lies in this one, faces included.
     #[tactic(auto, unfolding(crate::specs::Boxes::holds_box))]
     pub fn contains(self, other: Cube) -> bool
         ensures held { result ≡ holds_box self other }
@@ -105,7 +105,7 @@ impl Cube {
         is_under(self.lo, other.lo) && is_under(other.hi, self.hi)
     }
 
-    /// Returns the Chebyshev distance from the box to the point, in grid steps: 0 inside it.
+    /// Returns the Chebyshev distance from the box to the point, in grid steps; 0 if the point is in the box.
     #[tactic(auto, unfolding(crate::specs::Distance::box_distance))]
     pub fn distance_to(self, p: Pt) -> u32
         ensures distance { result ≡ box_distance self p }

@@ -5,7 +5,7 @@ use crate::points::Pt;
 
 /// Returns the Chebyshev distance of two points, in grid steps: the greatest of the three axes' distances.
 ///
-/// It fits for all points, not only those of a mesh.
+/// The result fits a `u32` for all points, not only for those of a mesh.
 #[tactic(auto, unfolding(crate::specs::Distance::distance))]
 pub fn cheb(p: Pt, q: Pt) -> u32
     ensures distance { result ≡ distance p q }

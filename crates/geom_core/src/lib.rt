@@ -1,8 +1,9 @@
-//! The plain types of triangle geometry in whole numbers, and the definitions that every other crate
-//! cites: boxes and distances, edge sums, a camera's spots, winding, depth, and the picture.
+//! Triangle geometry on an integer grid: the plain types, the limits, and the definitions that every other
+//! crate cites, of boxes, distances, edge sums, projection, winding, depth and the picture.
 //!
-//! The types stand here; what they mean stands in `specs/`, one idea a file, and the laws about those
-//! definitions in `proofs/`.
+//! All geometry is exact: coordinates are whole grid steps, screen positions whole sixteenths of a pixel. The
+//! definitions are in `specs/`, one idea a file. `laws` and `box_laws` state what follows from them, as functions
+//! without a body; worked examples are in `proofs/`.
 #![tactic(auto)]
 
 pub mod box_laws;

@@ -4,7 +4,7 @@ ghost use Rattle.std.specs.Cmp.Lexicographic.{pointwise, nat_list_eq_equiv};
 
 use std::marker::Model;
 
-/// A list of numbers below 2^32. A contract sees the list itself.
+/// A list of numbers below 2^32. Contracts see the list itself.
 #[derive(Debug, Drop)]
 pub struct Nums {
     items: Vec<u32>,
@@ -31,7 +31,7 @@ impl Eq for Nums {
 }
 
 impl Nums {
-    /// The list of these numbers. Takes no memory.
+    /// Returns the list of the vector's numbers, without allocating.
     pub fn of(items: Vec<u32>) -> Nums
         ensures { result ≡ items.items }
     {
@@ -45,7 +45,7 @@ impl Nums {
         self.items.as_slice()
     }
 
-    /// The vector that holds the numbers. Takes no memory.
+    /// Returns the vector that holds the numbers, without allocating.
     pub fn into_vec(self) -> Vec<u32>
         ensures { result.items ≡ self }
     {
@@ -54,7 +54,7 @@ impl Nums {
     }
 }
 
-/// A list of numbers below 2^64. A contract sees the list itself.
+/// A list of numbers below 2^64. Contracts see the list itself.
 #[derive(Debug, Drop)]
 pub struct Words {
     items: Vec<u64>,
@@ -81,7 +81,7 @@ impl Eq for Words {
 }
 
 impl Words {
-    /// The list of these numbers. Takes no memory.
+    /// Returns the list of the vector's numbers, without allocating.
     pub fn of(items: Vec<u64>) -> Words
         ensures { result ≡ items.items }
     {
@@ -95,7 +95,7 @@ impl Words {
         self.items.as_slice()
     }
 
-    /// The vector that holds the numbers. Takes no memory.
+    /// Returns the vector that holds the numbers, without allocating.
     pub fn into_vec(self) -> Vec<u64>
         ensures { result.items ≡ self }
     {

@@ -1,6 +1,6 @@
 use std::alloc::{AllocError, AllocFailed};
 
-/// Memory ran out: the one refusal that any call that takes memory may give.
+/// Out of memory: the error of each call that allocates.
 #[derive(Clone, Copy, Debug, PartialEq, Eq)]
 pub struct Memory;
 

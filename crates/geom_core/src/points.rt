@@ -18,7 +18,7 @@ pub struct Pt {
     pub z: i32,
 }
 
-/// A law: two points compare by x, then y, then z.
+/// Law: points compare by x, then y, then z.
 pub fn points_are_ordered()
     ensures { (p q : Pt) → ⟦<Pt as Ord>⟧.cmp p q ≡ point_cmp p q }
 {}

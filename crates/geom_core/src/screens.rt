@@ -1,11 +1,11 @@
-/// A screen position with its depth.
+/// A screen-space vertex: a position on the screen, with its depth.
 #[derive(Clone, Copy, Debug, PartialEq, Eq)]
 pub struct Spot {
-    /// Sixteenths of a pixel from the picture's left edge, growing to the right.
+    /// The distance from the picture's left edge, in sixteenths of a pixel; it grows to the right.
     pub x: i64,
-    /// Sixteenths of a pixel from the picture's upper edge, growing downwards.
+    /// The distance from the picture's upper edge, in sixteenths of a pixel; it grows downwards.
     pub y: i64,
-    /// Reversed depth, from 1 to `MAX_DEPTH`: the greater, the nearer.
+    /// The reversed depth, from 1 to `MAX_DEPTH`: a greater number is nearer.
     pub z: u32,
 }
 

@@ -7,7 +7,9 @@ ghost use Rattle.geom_core.specs.declared.triangles.Tagged.{Tagged};
 use crate::triangles::Tagged;
 use std::marker::Model;
 
-/// A list of triangles, each with its source triangle. A contract sees the list itself.
+/// A list of triangles, each with the index of its source triangle. Contracts see the list itself.
+///
+/// Simplified lists, the clusters of a DAG and the clusters of a page are this type.
 #[derive(Debug, Drop)]
 pub struct TaggedTris {
     items: Vec<Tagged>,
@@ -34,7 +36,7 @@ impl Eq for TaggedTris {
 }
 
 impl TaggedTris {
-    /// Returns the list of these triangles. Takes no memory.
+    /// Returns the list of the vector's triangles, without allocating.
     pub fn of(items: Vec<Tagged>) -> TaggedTris
         ensures { result ≡ items.items }
     {
@@ -48,7 +50,7 @@ impl TaggedTris {
         self.items.as_slice()
     }
 
-    /// Returns the vector that holds the triangles. Takes no memory.
+    /// Returns the vector that holds the triangles, without allocating.
     pub fn into_vec(self) -> Vec<Tagged>
         ensures { result.items ≡ self }
     {

@@ -15,14 +15,14 @@ pub struct Tri {
 }
 
 impl Tri {
-    /// Whether no two of the corners are one point.
+    /// Whether no two corners are the same point.
     pub fn has_distinct_corners(self) -> bool
         ensures { result ≡ has_distinct_corners self }
     {
         self.a != self.b && self.b != self.c && self.c != self.a
     }
 
-    /// Whether this may be a triangle of a mesh: three different points, each coordinate at most
+    /// Whether this may be a triangle of a mesh: three different corners, each coordinate at most
     /// `MAX_COORDINATE` from 0.
     pub fn is_grid_triangle(self) -> bool
         ensures { result ≡ is_grid_triangle self }
@@ -34,11 +34,11 @@ impl Tri {
     }
 }
 
-/// A triangle, and the source triangle that it came from.
+/// A triangle of some level of detail, with the source triangle that it came from.
 #[derive(Clone, Copy, Debug, PartialEq, Eq)]
 pub struct Tagged {
-    /// The triangle as it stands now, perhaps with corners moved.
+    /// The triangle. Simplification may have moved its corners, each in its place.
     pub tri: Tri,
-    /// The place, from 0, of its source triangle in the mesh that was read.
+    /// The index, from 0, of its source triangle in the mesh that was read.
     pub source: u32,
 }

@@ -1,12 +1,12 @@
 use crate::points::Pt;
 
-/// What decides how fine a mesh has to be: where it is seen from, how large, and how exactly.
+/// What decides the level of detail (LOD): the camera's position, its focal length and the error tolerance.
 #[derive(Clone, Copy, Debug, PartialEq, Eq)]
 pub struct Lens {
-    /// Where the camera stands, each coordinate from -2^24 to 2^24.
+    /// The camera's position, each coordinate at most `MAX_EYE` from 0.
     pub eye: Pt,
-    /// The focal length, from 1 to 4,096, in pixels at distance 1.
+    /// The focal length in pixels at distance 1, from 1 to `MAX_FOCAL`.
     pub focal: u32,
-    /// The error that may be seen, in sixteenths of a pixel, from 0 to 65,535.
+    /// The screen-space error tolerance in sixteenths of a pixel, from 0 to `MAX_TOLERANCE`.
     pub tolerance: u32,
 }

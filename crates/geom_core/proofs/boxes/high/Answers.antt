@@ -1,6 +1,5 @@
-use Rattle.std.proofs.Common.{◌∙◌, rules, w32, FitsSigned, to_z, of_z}
+use Rattle.std.proofs.Common.{rules, w32, FitsSigned}
 use Rattle.std.proofs.lemmas.Int.{to_z-of_z}
-use Rattle.geom_core.specs.declared.points.Pt.{Pt}
 use Rattle.geom_core.specs.Boxes.{high_of}
 use Rattle.geom_core.proofs.PointLaws.{same_parts}
 use Rattle.geom_core.proofs.boxes.high.Goals as goal
