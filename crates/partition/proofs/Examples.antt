@@ -1,7 +1,7 @@
 -- Worked examples of the growing rule, computed by the checker.
-use Rattle.std.specs.Prelude.{◌≡◌, ℕ, ◌/◌, ◌∷◌, [], Bool, List, true, false, slice_index}
+use Rattle.std.specs.Prelude.{◌≡◌, ℕ, ◌/◌, ◌∷◌, [], Bool, List, true, false, nat_lt, slice_index}
 use Rattle.std.proofs.Common.{refl}
-use Rattle.partition.specs.Growing.{is_next, is_grown, batches_of}
+use Rattle.partition.specs.Growing.{batch_before, batches_of, is_grown, is_next, ranks_before, touches}
 use Rattle.partition.specs.Internal.SharedEdges.{are_adjacent, shared_edges_of}
 
 -- A strip of three squares, each of two triangles: 0 and 1, 2 and 3, 4 and 5. Both of a square have its key.
@@ -85,3 +85,40 @@ batches_none = refl
 -- shared edges in one flat list
 pub shared_edges_in_a_row : shared_edges_of (0 ∷ 1 ∷ 5 ∷ 2 ∷ []) (0 ∷ 2 ∷ 2 ∷ 4 ∷ []) ≡ (0 ∷ 1 ∷ []) ∷ [] ∷ (5 ∷ 2 ∷ []) ∷ []
 shared_edges_in_a_row = refl
+
+-- lesser keys first, at equal keys lesser numbers
+pub ranks_by_key : ranks_before (slice_index (5 ∷ 3 ∷ [])) 1 0 ≡ true
+ranks_by_key = refl
+
+pub ranks_by_number : ranks_before (λ _. 0) 0 1 ≡ true
+ranks_by_number = refl
+
+pub ranks_not_itself : ranks_before (λ _. 0) 1 1 ≡ false
+ranks_not_itself = refl
+
+-- an item of the batch is near the item, whichever
+pub touches_one_of_batch : touches (λ j i. nat_lt j i) (3 ∷ 7 ∷ []) 5 ≡ true
+touches_one_of_batch = refl
+
+pub touches_none_of_batch : touches (λ j i. nat_lt j i) (6 ∷ 7 ∷ []) 5 ≡ false
+touches_none_of_batch = refl
+
+-- the batch has what was placed since the last multiple of its size
+pub batch_before-4 : batch_before 3 (9 ∷ 8 ∷ 7 ∷ 6 ∷ 5 ∷ []) 4 ≡ 6 ∷ []
+batch_before-4 = refl
+
+pub batch_before-5 : batch_before 3 (9 ∷ 8 ∷ 7 ∷ 6 ∷ 5 ∷ []) 5 ≡ 6 ∷ 5 ∷ []
+batch_before-5 = refl
+
+pub batch_before-3 : batch_before 3 (9 ∷ 8 ∷ 7 ∷ 6 ∷ 5 ∷ []) 3 ≡ []
+batch_before-3 = refl
+
+-- an item that isn't below n, though it has the least key
+pub not_beyond : is_grown 1 (slice_index (5 ∷ 3 ∷ [])) (are_adjacent []) 8 (1 ∷ []) ≡ false
+unfolding is_next is_grown
+not_beyond = refl
+
+-- an order of more items than there are
+pub not_longer : is_grown 1 (λ _. 0) (are_adjacent []) 8 (0 ∷ 0 ∷ []) ≡ false
+unfolding is_next is_grown
+not_longer = refl

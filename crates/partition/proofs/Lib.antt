@@ -7,6 +7,7 @@ pub mod Determined
 pub mod EdgeUseLists
 pub mod EdgeUseOrder
 pub mod Examples
+pub mod GroupExamples
 pub mod ItemEdges
 pub mod KeyExamples
 pub mod Marks
