@@ -1,10 +1,11 @@
 -- Rims as functions of edges: the sums that a rim has, and the rim that has given sums.
-use Rattle.std.proofs.Common.{◌≡◌, ◌≢◌, ℕ, zero, suc, ◌+◌, ◌<◌, ◌≤◌, Bool, true, false, not, ◌&&◌, ℤ, pos, negsuc, ◌+ℤ◌, ◌-ℤ◌, neg_ℤ, List, [], ◌∷◌, ◌++◌, length, take, get_or, map, flat_map, All, Contains, ◌↔◌, cond, Ordering, FitsSigned, w32, inl, inr, refl, sym, ap, ◌∙◌, subst, arith, rules}
+use Rattle.std.proofs.Common.{◌≡◌, ◌≢◌, ℕ, zero, suc, ◌+◌, ◌<◌, ◌≤◌, Bool, true, false, not, ◌&&◌, ◌||◌, ℤ, pos, negsuc, ◌+ℤ◌, ◌-ℤ◌, neg_ℤ, List, [], ◌∷◌, ◌++◌, length, take, get_or, map, flat_map, All, Contains, ◌↔◌, cond, Ordering, FitsSigned, w32, inl, inr, refl, sym, ap, ◌∙◌, subst, arith, rules}
 use Rattle.std.proofs.lemmas.Int.{ints, int_wrap_fits}
 use Rattle.std.proofs.lemmas.Cmp.{eq_by_cmp_equiv}
-use Rattle.std.proofs.lemmas.List.{append-nil, length-append, take_all}
+use Rattle.std.proofs.lemmas.List.{append-nil, length-append, take_all, get_or_default}
 use Rattle.std.proofs.lemmas.List.Elements.{All-nil, All-head, All-tail}
 use Rattle.std.specs.Int.{int_wrap}
+use Rattle.std.specs.Bool.{Decides}
 use Rattle.std.specs.Cmp.{IsEquivalence}
 use Rattle.std.specs.List.{AllPairs, AllByRecursion, dedup}
 use Rattle.std.specs.List.Retain.{IsFiltered, DiffersFromLast}
@@ -22,12 +23,14 @@ use Rattle.geom_core.specs.Order.{is_before, point_cmp}
 use Rattle.geom_core.proofs.EdgeSumLaws.{edge_sum-none, edge_sum-append, edge_sum-first, edge_count-one, edge_sum-same, edge_sum-turned, is_rim_edge-turned}
 use Rattle.geom_core.proofs.PointLaws.{true≢false, point_cmp-total, derived_eq, derived_eq-is, same_point-is, same_point-from, same_point-refl, same_point-itself, same_point-before, before-from_is_before, is_before-itself, not_both, placed}
 use Rattle.geom_core.proofs.PointLaws.Placed.{Before, Same, After}
+use Rattle.geom_core.specs.Limits.{HasGridCorners, IsGridPoint, is_grid_point}
+use Rattle.half_mesh.specs.Around.{has_corner, IsCornerOf}
 use Rattle.half_mesh.specs.declared.edges.Edge.{Edge}
 use Rattle.half_mesh.specs.declared.terms.EdgeTerm.{EdgeTerm}
 use Rattle.half_mesh.specs.Order.{edge_cmp}
 use Rattle.half_mesh.specs.Rim.{EdgeSums, edge_sums, IsAscending, IsRim, IsRimEdge, IsRimOf, sum_on, same_edge, sum_in, sum_in_all, HaveSmallSums, AreRimsOf, all_of, ends_of}
 use Rattle.half_mesh.specs.Terms.{edge_of, term, total_at, term_of, terms_of, terms_in, terms_in_all, AddUpAlike, IsSumOf}
-use Rattle.half_mesh.proofs.EdgeLaws.{edge_cmp-total, edge_from_equal, same_edge-from, same_edge-itself, same_edge-before, same_edge-after, rim_edge-from, rim_edge-some, zero_unless, edge_sum-fits}
+use Rattle.half_mesh.proofs.EdgeLaws.{edge_cmp-total, edge_from_equal, derived_edge_eq, derived_edge_eq-is, same_edge-from, same_edge-itself, same_edge-before, same_edge-after, rim_edge-from, rim_edge-some, zero_unless, edge_sum-fits}
 use Rattle.half_mesh.proofs.TermLaws.{total_at-append, total_at-one, total_at-absent}
 
 add_nothing : (a : ℤ) → a +ℤ pos 0 ≡ a
@@ -595,3 +598,121 @@ split_is terms total edges sums i added past are_edges are_sums =
     same_length : (total : List EdgeTerm) → length (map (λ (t : EdgeTerm). t.sum) total) ≡ length (map (λ (t : EdgeTerm). t.edge) total)
     same_length [] = refl
     same_length (t ∷ total) = ap suc (same_length total)
+
+-- ---- whether two rims are one
+
+pub edge_decides : (e f : Edge) → Decides (derived_edge_eq e f) (e ≡ f)
+edge_decides e f = (
+  λ same. same_edge-from e f (sym (derived_edge_eq-is e f) ∙ same),
+  λ same. derived_edge_eq-is e f ∙ ap (λ g. same_edge g f) same ∙ same_edge-itself f,
+)
+
+-- what two tests in turn answer
+pub same_edges_first : (edges others : List Edge) (sums more : List ℤ) (a b : Bool) → Decides a (edges ≡ others) → Decides b (sums ≡ more) →
+    a ≡ true → (b ≡ true) ↔ (edge_sums edges sums ≡ edge_sums others more)
+same_edges_first edges others sums more a b first then same = (
+  λ yes. both (first.0 same) (then.0 yes),
+  λ one. then.1 (ap (λ (r : EdgeSums). r.sums) one),
+)
+  where
+    both : edges ≡ others → sums ≡ more → edge_sums edges sums ≡ edge_sums others more
+    both h k = ap (λ l. edge_sums l sums) h ∙ ap (λ l. edge_sums others l) k
+
+pub other_edges : (edges others : List Edge) (sums more : List ℤ) (a : Bool) → Decides a (edges ≡ others) → a ≡ false →
+    (a ≡ true) ↔ (edge_sums edges sums ≡ edge_sums others more)
+other_edges edges others sums more a first apart = (
+  λ yes. absurd (true≢false (sym yes ∙ apart)),
+  λ one. first.1 (ap (λ (r : EdgeSums). r.edges) one),
+)
+
+pub same_where_sums_agree : (r : Bool) (one other : EdgeSums) → (r ≡ true) ↔ (one ≡ other) → (tris others : List Tri) →
+    IsRimOf tris one.edges one.sums → IsRimOf others other.edges other.sums →
+    (r ≡ true) ↔ ((u v : Pt) → edge_sum tris u v ≡ edge_sum others u v)
+same_where_sums_agree r one other same tris others first second = (
+  λ yes. sums_agree tris others one.edges one.sums first
+      (subst (λ (z : EdgeSums). IsRimOf others z.edges z.sums) (sym (same.0 yes)) second),
+  λ agree.
+      let h = same_rim-from tris others one.edges one.sums other.edges other.sums first second agree in
+      same.1 (ap (λ l. edge_sums l one.sums) h.0 ∙ ap (λ l. edge_sums other.edges l) h.1),
+)
+
+-- ---- laws
+
+pub law-rims_are_determined : (tris others : List Tri) (rim other : EdgeSums) → IsRimOf tris rim.edges rim.sums →
+    IsRimOf others other.edges other.sums → (rim ≡ other) ↔ ((u v : Pt) → edge_sum tris u v ≡ edge_sum others u v)
+law-rims_are_determined tris others rim other first second = (
+  λ same. sums_agree tris others rim.edges rim.sums first (subst (λ (z : EdgeSums). IsRimOf others z.edges z.sums) (sym same) second),
+  λ agree.
+      let h = same_rim-from tris others rim.edges rim.sums other.edges other.sums first second agree in
+      ap (λ l. edge_sums l rim.sums) h.0 ∙ ap (λ l. edge_sums other.edges l) h.1,
+)
+
+pub law-ends_are_on_rim : (tris : List Tri) (rim : EdgeSums) → IsRimOf tris rim.edges rim.sums → (p : Pt) →
+    Contains (ends_of rim.edges) p ↔ OnRim tris p
+law-ends_are_on_rim tris rim is = ends_on_rim tris rim.edges rim.sums is
+
+-- a triangle without corner p has no edge at p
+no_edge : (t : Tri) (p q : Pt) → has_corner p t ≡ false → edge_sum (t ∷ []) p q ≡ pos 0
+unfolding has_corner edge_sum
+no_edge t p q none = by (same_point t.a p) (same_point t.b p) (same_point t.c p) refl refl refl none
+  where
+    never : (b : Bool) → b && false ≡ false
+    never true = refl
+    never false = refl
+
+    by : (x y z : Bool) → same_point t.a p ≡ x → same_point t.b p ≡ y → same_point t.c p ≡ z → x || y || z ≡ false →
+        pos (edge_count (t ∷ []) p q) -ℤ pos (edge_count (t ∷ []) q p) ≡ pos 0
+    by true true z a b c h = absurd (true≢false h)
+    by true false z a b c h = absurd (true≢false h)
+    by false true z a b c h = absurd (true≢false h)
+    by false false true a b c h = absurd (true≢false h)
+    by false false false a b c h =
+        rw (edge_count-one t p q, edge_count-one t q p, a, b, c, never (same_point t.a q), never (same_point t.b q), never (same_point t.c q)) refl
+
+pub corner_of : (tris : List Tri) (p q : Pt) → edge_sum tris p q ≢ pos 0 → IsCornerOf tris p
+corner_of [] p q some = absurd (some (edge_sum-none p q))
+corner_of (t ∷ tris) p q some = by (corner_of tris p q) (has_corner p t) refl
+  where
+    by : (edge_sum tris p q ≢ pos 0 → IsCornerOf tris p) → (b : Bool) → has_corner p t ≡ b → IsCornerOf (t ∷ tris) p
+    by rest true here = (t, (0, omega arith, refl), here)
+    by rest false none =
+        let there = rest (λ nothing. some (edge_sum-first t tris p q ∙ rw (no_edge t p q none, nothing) refl)) in
+        (there.0, (suc there.1.0, omega (arith, there.1.1), there.1.2), there.2)
+
+all_contained : {X : Type 0} (P : X → Type 0) (xs : List X) → ((x : X) → Contains xs x → P x) → All P xs
+all_contained P xs each k d in_bounds =
+    each (get_or xs k d) (k, in_bounds, get_or_default xs k (get_or xs k d) d in_bounds)
+
+pub law-ends_are_corners : (tris : List Tri) (rim : EdgeSums) → IsRimOf tris rim.edges rim.sums →
+    All (IsCornerOf tris) (ends_of rim.edges)
+law-ends_are_corners tris rim is =
+    all_contained (IsCornerOf tris) (ends_of rim.edges)
+    (λ p there.
+    let on = (ends_on_rim tris rim.edges rim.sums is p).0 there in
+    corner_of tris p on.0 (rim_edge-some tris p on.0 on.1))
+
+grid_corner : (t : Tri) (p : Pt) → HasGridCorners t → has_corner p t ≡ true → IsGridPoint p
+unfolding has_corner
+grid_corner t p in_grid here = by (same_point t.a p) (same_point t.b p) (same_point t.c p) refl refl refl here
+  where
+    parts : (a b c : Bool) → a && b && c ≡ true → (a ≡ true) × (b ≡ true) × (c ≡ true)
+    parts true true true h = (refl, refl, refl)
+    parts true true false h = absurd (cc h)
+    parts true false c h = absurd (cc h)
+    parts false b c h = absurd (cc h)
+
+    each : IsGridPoint t.a × IsGridPoint t.b × IsGridPoint t.c
+    each = parts (is_grid_point t.a) (is_grid_point t.b) (is_grid_point t.c) in_grid
+
+    by : (x y z : Bool) → same_point t.a p ≡ x → same_point t.b p ≡ y → same_point t.c p ≡ z → x || y || z ≡ true → IsGridPoint p
+    by true y z a b c h = subst IsGridPoint (same_point-from t.a p a) each.0
+    by false true z a b c h = subst IsGridPoint (same_point-from t.b p b) each.1
+    by false false true a b c h = subst IsGridPoint (same_point-from t.c p c) each.2
+    by false false false a b c h = absurd (cc h)
+
+pub law-ends_are_grid_points : (tris : List Tri) (rim : EdgeSums) → IsRimOf tris rim.edges rim.sums →
+    All HasGridCorners tris → All IsGridPoint (ends_of rim.edges)
+law-ends_are_grid_points tris rim is in_grid k d in_bounds =
+    let corner = law-ends_are_corners tris rim is k d in_bounds in
+    grid_corner corner.0 (get_or (ends_of rim.edges) k d)
+    (subst HasGridCorners corner.1.2 (in_grid corner.1.0 corner.0 corner.1.1)) corner.2

@@ -487,3 +487,80 @@ alike_piece tris rest piece later terms sums grown so_far whole added pushed =
       All-append (λ (t : EdgeTerm). FitsSigned w32 t.sum) terms sums so_far.0 added.small,
       alike-piece terms_of tris rest piece later terms sums so_far.1 whole added,
     )
+
+-- ---- the terms of a rim
+
+pub terms_in-more : (edges : List Edge) (sums : List ℤ) (i : ℕ) (d : Edge) (z : ℤ) → length sums ≡ length edges → i < length edges →
+    terms_in (take (i + 1) edges) (take (i + 1) sums) ≡
+    terms_in (take i edges) (take i sums) ++ term (get_or edges i d) (get_or sums i z) ∷ []
+unfolding terms_in
+terms_in-more [] sums i d z same in_bounds = absurd (omega arith)
+terms_in-more (e ∷ edges) [] i d z same in_bounds = absurd (omega arith)
+terms_in-more (e ∷ edges) (sum ∷ sums) zero d z same in_bounds = refl
+terms_in-more (e ∷ edges) (sum ∷ sums) (suc i) d z same in_bounds =
+    let next : suc i + 1 ≡ suc (i + 1) = omega arith in
+    rw next (ap (λ l. term e sum ∷ l) (terms_in-more edges sums i d z (omega arith) (omega arith)))
+
+pub terms_in-small : (edges : List Edge) (sums : List ℤ) → All (FitsSigned w32) sums → AreSmall (terms_in edges sums)
+unfolding terms_in
+terms_in-small [] sums small = All-nil (λ (t : EdgeTerm). FitsSigned w32 t.sum)
+terms_in-small (e ∷ edges) [] small = All-nil (λ (t : EdgeTerm). FitsSigned w32 t.sum)
+terms_in-small (e ∷ edges) (sum ∷ sums) small =
+    All-append (λ (t : EdgeTerm). FitsSigned w32 t.sum) (term e sum ∷ []) (terms_in edges sums)
+    (small_one (term e sum) (All-head (FitsSigned w32) sum sums small)) (terms_in-small edges sums (All-tail (FitsSigned w32) sum sums small))
+
+-- one more part
+pub joining : (parts : List EdgeSums) (i : ℕ) (d : EdgeSums) (terms grown : List EdgeTerm) → i < length parts →
+    terms ≡ terms_in_all (take i parts) × AreSmall terms →
+    grown ≡ terms ++ terms_in (get_or parts i d).edges (get_or parts i d).sums →
+    AreSmall (terms_in (get_or parts i d).edges (get_or parts i d).sums) →
+    grown ≡ terms_in_all (take (i + 1) parts) × AreSmall grown
+joining parts i d terms grown in_bounds so_far pushed small = (
+  pushed ∙ ap (λ l. l ++ terms_in (get_or parts i d).edges (get_or parts i d).sums) so_far.0 ∙
+      sym (ap terms_in_all (take_more parts i d in_bounds) ∙
+      flat_map-append (λ (part : EdgeSums). terms_in part.edges part.sums) (take i parts) (get_or parts i d ∷ []) ∙
+      ap (λ l. terms_in_all (take i parts) ++ l) (append-nil (terms_in (get_or parts i d).edges (get_or parts i d).sums))),
+  rw pushed (All-append (λ (t : EdgeTerm). FitsSigned w32 t.sum) terms (terms_in (get_or parts i d).edges (get_or parts i d).sums) so_far.1 small),
+)
+
+pub terms_in-nothing : (terms : List EdgeTerm) → terms ++ terms_in [] [] ≡ terms
+unfolding terms_in
+terms_in-nothing terms = append-nil terms
+
+-- one more edge of a rim
+pub terms_in-pushed : (edges : List Edge) (sums : List ℤ) (old terms grown : List EdgeTerm) (i : ℕ) (d : Edge) (z : ℤ) →
+    length sums ≡ length edges → All (FitsSigned w32) sums → i < length edges →
+    terms ≡ old ++ terms_in (take i edges) (take i sums) →
+    grown ≡ terms ++ term (get_or edges i d) (to_z w32 (of_z w32 (get_or sums i z))) ∷ [] →
+    grown ≡ old ++ terms_in (take (i + 1) edges) (take (i + 1) sums)
+terms_in-pushed edges sums old terms grown i d z same small in_bounds so_far pushed =
+    let fits : FitsSigned w32 (get_or sums i z) = small i z (omega arith) in
+    pushed ∙
+    ap (λ s. terms ++ term (get_or edges i d) s ∷ []) (to_z-of_z w32 (get_or sums i z) fits) ∙
+    ap (λ l. l ++ term (get_or edges i d) (get_or sums i z) ∷ []) so_far ∙
+    append_assoc old (terms_in (take i edges) (take i sums)) (term (get_or edges i d) (get_or sums i z) ∷ []) ∙
+    ap (λ l. old ++ l) (sym (terms_in-more edges sums i d z same in_bounds))
+
+-- the same where the parts are read from a list
+map_at : {X Y : Type 0} (f : X → Y) (xs : List X) (i : ℕ) (d : X) → get_or (map f xs) i (f d) ≡ f (get_or xs i d)
+map_at f [] i d = refl
+map_at f (x ∷ xs) zero d = refl
+map_at f (x ∷ xs) (suc i) d = map_at f xs i d
+
+map_length : {X Y : Type 0} (f : X → Y) (xs : List X) → length (map f xs) ≡ length xs
+map_length f [] = refl
+map_length f (x ∷ xs) = ap suc (map_length f xs)
+
+pub joining_at : {X : Type 0} (f : X → EdgeSums) (xs : List X) (i : ℕ) (x : X) (terms grown : List EdgeTerm) → i < length xs →
+    x ≡ get_or xs i x → terms ≡ terms_in_all (take i (map f xs)) × AreSmall terms →
+    grown ≡ terms ++ terms_in (f x).edges (f x).sums → AreSmall (terms_in (f x).edges (f x).sums) →
+    grown ≡ terms_in_all (take (i + 1) (map f xs)) × AreSmall grown
+joining_at f xs i x terms grown in_bounds is so_far pushed small =
+    let here : f x ≡ get_or (map f xs) i (f x) = ap f is ∙ sym (map_at f xs i x) in
+    joining (map f xs) i (f x) terms grown (omega (arith, map_length f xs)) so_far
+    (pushed ∙ ap (λ (p : EdgeSums). terms ++ terms_in p.edges p.sums) here)
+    (subst (λ (p : EdgeSums). AreSmall (terms_in p.edges p.sums)) here small)
+
+pub joining_done : {X : Type 0} (f : X → EdgeSums) (xs : List X) (i : ℕ) (terms : List EdgeTerm) → length xs ≤ i →
+    terms ≡ terms_in_all (take i (map f xs)) → terms ≡ terms_in_all (map f xs)
+joining_done f xs i terms past so_far = so_far ∙ ap terms_in_all (take_all i (map f xs) (omega (arith, map_length f xs)))

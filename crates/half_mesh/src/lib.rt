@@ -14,6 +14,7 @@
 mod corners;
 mod edges;
 mod incidences;
+pub mod laws;
 mod rims;
 mod search;
 mod tables;

@@ -1,17 +1,17 @@
-ghost use Rattle.std.specs.Prelude.{◌≡◌, ◌≤◌, ◌↔◌, OnOk, IfOk, IsTrue, List, length, map, flat_map, AllPairs, Contains};
+ghost use Rattle.std.specs.Prelude.{◌≡◌, ◌≤◌, ◌↔◌, ◌++◌, OnOk, IfOk, IsTrue, List, length, map, flat_map, AllPairs, Contains};
 ghost use Rattle.std.specs.declared.cmp.Ordering.TheVariants.{Less};
 ghost use Rattle.geom_core.specs.declared.limits.TheConstants.{MAX_SUMMED_TRIANGLES};
 ghost use Rattle.geom_core.specs.declared.points.Pt.{Pt};
 ghost use Rattle.geom_core.specs.declared.triangles.Tri.{Tri};
-ghost use Rattle.geom_core.specs.EdgeSum.{OnRim};
+ghost use Rattle.geom_core.specs.EdgeSum.{edge_sum, OnRim};
 ghost use Rattle.geom_core.specs.Order.{point_cmp};
 ghost use Rattle.half_mesh.specs.declared.edges.Edge.{Edge};
-ghost use Rattle.half_mesh.specs.Rim.{EdgeSums, IsAscending, IsRim, IsRimOf, AreRimsOf, HaveSmallSums, sum_in, ends_of};
-ghost use Rattle.half_mesh.specs.Terms.{AddUpAlike, AreSmall, total_at, terms_of};
+ghost use Rattle.half_mesh.specs.Rim.{EdgeSums, IsAscending, IsRim, IsRimOf, AreRimsOf, HaveSmallSums, all_of, sum_in, ends_of};
+ghost use Rattle.half_mesh.specs.Terms.{AddUpAlike, AreSmall, total_at, terms_of, terms_in};
 ghost use Rattle.std.specs.Int.{w32, int_wrap};
 
 use crate::edges::Edge;
-use crate::terms::{EdgeTerm, list_terms, sort_and_add_up};
+use crate::terms::{EdgeTerm, list_terms, push_sums, sort_and_add_up};
 use geom_core::{Memory, Pt, Tri};
 use std::alloc::Global;
 use std::marker::Model;
@@ -49,6 +49,42 @@ impl Rim {
         let mut terms = list_uncancelled(alloc, tris)?;
         let rim = Rim::from_terms(alloc, &mut terms)?;
         Ok(rim)
+    }
+
+    /// Returns the rim of joined lists of triangles, from the rims of these lists alone. Parts in any order, and
+    /// empty ones, are fine. Rims of lists with together at most `MAX_SUMMED_TRIANGLES` triangles have small sums.
+    pub fn joined(alloc: Global, parts: &[&Rim]) -> Result<Rim, Memory>
+        requires sum_range { HaveSmallSums (map (λ part. part.now) parts.now) }
+        ensures rim { IfOk result (λ rim. (lists : List (List Tri)) →
+            AreRimsOf lists (map (λ part. part.now) parts.now) → IsRimOf (all_of lists) rim.edges rim.sums) }
+    {
+        let mut terms = Vec::new(alloc);
+        for part in parts {
+            part.push_terms(&mut terms)?;
+        }
+        let rim = Rim::from_terms(alloc, &mut terms)?;
+        Ok(rim)
+    }
+
+    /// Appends each edge with its sum.
+    fn push_terms(&self, terms: &mut Vec<EdgeTerm>) -> Result<(), Memory>
+        ensures terms { OnOk result (terms.new.items ≡ terms.old.items ++ terms_in self.now.edges self.now.sums) }
+        ensures small { AreSmall (terms_in self.now.edges self.now.sums) }
+    {
+        push_sums(terms, &self.edges, &self.sums)?;
+        Ok(())
+    }
+
+    /// Whether both rims have the same edges with the same sums, so that their lists of triangles have the same sums
+    /// at all pairs of points.
+    pub fn has_same(&self, other: &Rim) -> bool
+        ensures same { IsTrue result ↔ self.now ≡ other.now }
+        ensures sums { (tris others : List Tri) → IsRimOf tris self.now.edges self.now.sums →
+            IsRimOf others other.now.edges other.now.sums →
+            IsTrue result ↔ ((u v : Pt) → edge_sum tris u v ≡ edge_sum others u v) }
+    {
+        self.edges.as_slice() == other.edges.as_slice()
+            && self.sums.as_slice() == other.sums.as_slice()
     }
 
     /// Returns the rim with these terms, which it sorts.

@@ -1,5 +1,6 @@
-ghost use Rattle.std.specs.Prelude.{◌≡◌, ◌++◌, OnOk, flat_map};
-ghost use Rattle.half_mesh.specs.Terms.{term_of, terms_of, unless_cancelled, IsByEdge, AreSmall, IsSumOf};
+ghost use Rattle.std.specs.Prelude.{◌≡◌, ◌++◌, All, FitsSigned, OnOk, length, flat_map};
+ghost use Rattle.std.specs.Int.{w32};
+ghost use Rattle.half_mesh.specs.Terms.{term_of, terms_of, terms_in, unless_cancelled, IsByEdge, AreSmall, IsSumOf};
 
 use crate::edges::Edge;
 use geom_core::{Memory, Pt, Tri};
@@ -52,6 +53,25 @@ pub(crate) fn list_terms(terms: &mut Vec<EdgeTerm>, tris: &[Tri]) -> Result<(), 
     terms.clear();
     for tri in tris {
         push_terms(terms, *tri)?;
+    }
+    Ok(())
+}
+
+/// Appends each edge with the sum at its place.
+pub(crate) fn push_sums(
+    terms: &mut Vec<EdgeTerm>,
+    edges: &[Edge],
+    sums: &[i32],
+) -> Result<(), Memory>
+    requires one_each { length sums.now ≡ length edges.now }
+    requires small { All (FitsSigned w32) sums.now }
+    ensures { OnOk result (terms.new.items ≡ terms.old.items ++ terms_in edges.now sums.now) }
+{
+    for (place, edge) in edges.iter().enumerate() {
+        terms.push(EdgeTerm {
+            edge: *edge,
+            sum: sums[place],
+        })?;
     }
     Ok(())
 }
