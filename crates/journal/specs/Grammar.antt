@@ -29,17 +29,17 @@ abbrev pub is_empty : {A : Type 0} → List A → Bool
 is_empty [] = true
 is_empty (first ∷ rest) = false
 
--- the lines of a text: each LF ends one, and what stands after the last LF is one too
+-- the lines of a text: each LF ends one, and the bytes after the last LF, if any, are one too
 abbrev pub lines_of : List ℕ → List (List ℕ)
 lines_of [] = []
 lines_of (byte ∷ rest) = if byte == 10 then [] ∷ lines_of rest else onto_first byte (lines_of rest)
 
--- a line that begins with `#` says nothing
+-- a line that begins with `#` is a comment
 abbrev pub is_comment : List ℕ → Bool
 is_comment [] = false
 is_comment (byte ∷ rest) = byte == 35
 
--- the fields of a line: what stands between its spaces
+-- the fields of a line: the bytes between its spaces
 abbrev pub fields_of : List ℕ → List (List ℕ)
 fields_of line = slice_split (λ byte. byte == 32) line
 
@@ -48,7 +48,7 @@ abbrev pub is_numeral : List ℕ → Bool
 is_numeral field =
     list_all is_ascii_digit field && nat_lt 0 (length field) && not (slice_index field 0 == 48 && nat_lt 1 (length field))
 
--- a number, where it is below `limit`
+-- the number if it is below `limit`, else none
 abbrev pub below : ℕ → ℕ → Option ℕ
 below limit number = if nat_lt number limit then Some number else None
 
@@ -79,12 +79,12 @@ numbers_of limit (field ∷ rest) = do
   numbers ← numbers_of limit rest
   Some (number ∷ numbers)
 
--- the same, of at least one field
+-- the numbers below `limit` that at least one field spells
 abbrev pub some_numbers_of : ℕ → List (List ℕ) → Option (List ℕ)
 some_numbers_of limit [] = None
 some_numbers_of limit (field ∷ rest) = numbers_of limit (field ∷ rest)
 
--- one field alone, which is `-`
+-- whether there is one field, which is `-`
 abbrev pub is_dash : List (List ℕ) → Bool
 is_dash [] = false
 is_dash (field ∷ []) = bytes_eq field (codes "-")
@@ -94,7 +94,7 @@ is_dash (field ∷ next ∷ rest) = false
 abbrev pub pages_of : List (List ℕ) → Option (List ℕ)
 pages_of fields = if is_dash fields then Some [] else some_numbers_of (2 ^ 32) fields
 
--- the fields, where there is one, or two, or three
+-- the fields if there is exactly one, or two, or three
 abbrev pub single : {A : Type 0} → List A → Option A
 single (first ∷ []) = Some first
 single _ = None
@@ -112,7 +112,7 @@ abbrev pub split_first : {A : Type 0} → List A → Option (A × List A)
 split_first [] = None
 split_first (first ∷ rest) = Some (first, rest)
 
--- the fields after the word, where it is the first
+-- the fields after the first if the first is the word
 abbrev pub after_word : List ℕ → List (List ℕ) → Option (List (List ℕ))
 after_word word [] = None
 after_word word (field ∷ rest) = if bytes_eq field word then Some rest else None
@@ -124,7 +124,7 @@ around_word word (field ∷ rest) =
     if bytes_eq field word then Some ([], rest)
     else option_map (λ found. (field ∷ found.0, found.1)) (around_word word rest)
 
--- `F` or `P` alone
+-- one number: `F` or `P`
 unfoldable pub single_number_of : List (List ℕ) → Option ℕ
 single_number_of fields = do
   field ← single fields
@@ -222,12 +222,12 @@ spoil_of fields = do
   why ← spoilt_of word more
   Some (Spoil page why)
 
--- nothing, for the entry that has its word alone
+-- no field: the entry is its word alone
 abbrev pub stop_of : List (List ℕ) → Option What
 stop_of [] = Some Stop
 stop_of (field ∷ rest) = None
 
--- what a maker did, by its word: an entry without a list of pages
+-- the event of a word that no list of pages follows
 unfoldable pub event_without_list_of : List ℕ → List (List ℕ) → Option What
 event_without_list_of word fields =
     if bytes_eq word (codes "pin") then option_map Pin (single_number_of fields)
@@ -241,7 +241,7 @@ event_without_list_of word fields =
     else if bytes_eq word (codes "stop") then stop_of fields
     else None
 
--- what a maker did, by its word
+-- the event of a word and the fields after it
 unfoldable pub event_of : List ℕ → List (List ℕ) → Option What
 event_of word fields =
     if bytes_eq word (codes "settle") then settle_of fields
@@ -249,7 +249,7 @@ event_of word fields =
     else if bytes_eq word (codes "narrow") then option_map (λ found. Narrow found.0 found.1) (frame_and_pages_of fields)
     else event_without_list_of word fields
 
--- an entry: its maker's number, and what it did
+-- an entry: its maker's number and its event
 unfoldable pub entry_of : List (List ℕ) → Option Entry
 entry_of fields = do
   (field, rest) ← split_first fields
@@ -258,8 +258,8 @@ entry_of fields = do
   what ← event_of word more
   Some (record { by = by; what = what })
 
--- `layout PAGES ROOTS SLOTS`: at most MAX_PAGES pages and slots, root pages from 1 to the pages, and slots
--- for all of them; no page has uppers yet
+-- `layout PAGES ROOTS SLOTS`: 1 to MAX_PAGES pages, 1 to `pages` root pages, `roots` to MAX_PAGES slots;
+-- no page has uppers yet
 unfoldable pub layout_of : List (List ℕ) → Option Layout
 layout_of fields = do
   rest ← after_word (codes "layout") fields
@@ -275,7 +275,7 @@ layout_of fields = do
 abbrev pub up_to : List (List ℕ) → ℕ → List (List ℕ)
 up_to uppers page = uppers ++ replicate (page - length uppers) []
 
--- a journal with `P L` of an `upper` line more: it stands before the entries, P is past the pages of
+-- a journal with the uppers of an `upper` line, `P L`: the line is before all entries, P is greater than in
 -- the `upper` lines before it, and L ascends and is below P
 unfoldable pub with_upper : Journal → List (List ℕ) → Option Journal
 with_upper journal fields = do
@@ -286,13 +286,13 @@ with_upper journal fields = do
       then Some (record journal { layout = record journal.layout { uppers = up_to journal.layout.uppers page ++ listed ∷ [] } })
       else None
 
--- a journal with the entry of a line more
+-- a journal with the entry of a line
 unfoldable pub with_entry : Journal → List (List ℕ) → Option Journal
 with_entry journal fields =
     option_map (λ entry. record journal { entries = journal.entries ++ entry ∷ [] }) (entry_of fields)
 
--- what the lines up to a further one say: the layout's line comes first, then the lines of uppers,
--- then the entries
+-- the journal so far with one more line: first the line of the layout, then those of uppers, then those of
+-- entries
 unfoldable pub with_line : Option Journal → List (List ℕ) → Option Journal
 with_line None fields = option_map (λ layout. record { layout = layout; entries = [] }) (layout_of fields)
 with_line (Some journal) fields =
@@ -303,7 +303,7 @@ unfoldable pub with_all_uppers : Journal → Journal
 with_all_uppers journal =
     record journal { layout = record journal.layout { uppers = up_to journal.layout.uppers journal.layout.pages } }
 
--- the journal at the end of the text, or the number of the line that its layout lacks
+-- the journal at the end of the text, or the number of the line after the last if there was no layout
 abbrev pub at_end : Option Journal → ℕ → Result Journal ℕ
 at_end None line = Err line
 at_end (Some journal) line = Ok (with_all_uppers journal)

@@ -1,9 +1,9 @@
--- What is left of a line while it is read.
+-- The rest of a line while it is read.
 use Rattle.std.specs.Prelude.{ℕ, ◌^◌, List, [], Option, None, Some, codes}
 use denote.Ref.{Bor}
 use Rattle.journal.specs.Grammar.{◌>>=◌, around_word, numbers_of, fields_of}
 
--- the fields of what is left of a line; none are left behind its end
+-- the fields of the rest of a line; none after its end
 abbrev pub fields_left : Option (Bor (List ℕ)) → List (List ℕ)
 fields_left None = []
 fields_left (Some rest) = fields_of rest.now

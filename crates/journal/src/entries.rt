@@ -3,122 +3,123 @@ ghost use Rattle.std.specs.Prelude.{◌≡◌, List};
 use geom_core::{Digest32, Nums};
 use std::marker::Model;
 
-/// Why the bytes that a load read are no text of their page.
+/// Why the bytes that a load read are not their page.
 #[derive(Clone, Copy, Debug, PartialEq, Eq)]
 pub enum Spoilt {
-    /// They have another digest than the directory states.
+    /// Their digest is not the one in the directory.
     Digest {
-        /// The digest that the directory states.
+        /// The digest in the directory.
         stated: Digest32,
         /// The digest of the bytes that were read.
         found: Digest32,
     },
-    /// They aren't in the grammar of pages.
+    /// They are not in the grammar of pages.
     Grammar {
         /// The number of the rule that is broken, 1 to 4.
         rule: u8,
-        /// Where it is broken, in bytes from the page's start, below 65,536.
+        /// Where it is broken, in bytes from the page's start, below `PAGE_BYTES`.
         offset: u32,
     },
-    /// Fewer bytes stand in the file than a page has.
+    /// The file has fewer bytes for the page than a page has.
     Short {
-        /// How many stand, below 65,536.
+        /// How many bytes it has, below `PAGE_BYTES`.
         got: u32,
     },
 }
 
-/// What one entry of the journal says.
+/// An event of the pool: what a maker did. The variants are the kinds of events.
 #[derive(Debug, Drop)]
 pub enum What {
-    /// A frame begins, or looks again: it pins the pages that are resident.
+    /// A frame begins, or pins anew: it pins all pages that are resident (a snapshot).
     Pin {
         /// The frame's number.
         frame: u32,
     },
-    /// A frame says which pages it needs: those that are resident, and those that it waits for.
+    /// A frame states the pages that it needs: the resident ones, and those that it waits for.
     Settle {
         /// The frame's number.
         frame: u32,
         /// The needed pages that are resident, ascending. They become the frame's pins.
         pages: Nums,
-        /// The needed pages that aren't, ascending. They are wanted, and pinned once installed.
+        /// The needed pages that are not resident, ascending. The frame wants them, and pins each when it is
+        /// installed.
         missing: Nums,
     },
-    /// A frame asks for pages without waiting for them.
+    /// A frame asks for pages without waiting for them (a prefetch).
     Ask {
         /// The frame's number.
         frame: u32,
         /// The pages that it asks for, none of them resident, ascending.
         pages: Nums,
     },
-    /// A frame gives up its pins but for these.
+    /// A frame reduces its pins to these.
     Narrow {
         /// The frame's number.
         frame: u32,
         /// The pages that stay pinned, ascending.
         pages: Nums,
     },
-    /// A frame ends, and its pins with it.
+    /// A frame ends. Its pins end; its wants stay until the next Settle or Ask of any frame.
     Unpin {
         /// The frame's number.
         frame: u32,
     },
-    /// A load begins: a page is taken, and its victim, where there is one, is evicted.
+    /// A load begins: a maker takes a page, and evicts the victim if there is one.
     Take {
-        /// The frame for which the page is loaded; None for the wants of all frames.
+        /// The frame for whose wants the page is loaded; None for the wants of all frames.
         frame: Option<u32>,
         /// The page that is taken.
         page: u32,
-        /// The page that is evicted for it; None where a slot is free.
+        /// The page that is evicted for it; None if a slot is free.
         victim: Option<u32>,
     },
-    /// A load ends well: the page is resident.
+    /// A load ends with its page, which is then resident.
     Install {
         /// The page that was loaded.
         page: u32,
         /// The digest of the bytes that were read.
         digest: Digest32,
     },
-    /// A load ends by a failed read.
+    /// A load ends with a failed read.
     Fail {
-        /// The page that was being loaded.
+        /// The page of the load.
         page: u32,
         /// The source's count of faults before the read.
         before: u64,
         /// The source's count of faults after it.
         after: u64,
     },
-    /// A load ends with bytes that are no text of the page.
+    /// A load ends with bytes that are not the page.
     Spoil {
-        /// The page that was being loaded.
+        /// The page of the load.
         page: u32,
         /// What was wrong with the bytes.
         why: Spoilt,
     },
-    /// A load ends for want of memory.
+    /// A load ends because memory ran out.
     Starve {
-        /// The page that was being loaded.
+        /// The page of the load.
         page: u32,
     },
-    /// A frame learns that some page of its wants could be taken and no page can be evicted for it.
+    /// A frame learns that a page that it wants could be taken, but no slot is free and no page is evictable.
     Full {
         /// The frame's number.
         frame: u32,
     },
-    /// No page is taken from here on.
+    /// The pool stops: no page is taken after this entry.
     Stop,
 }
 
-/// One event of the pool's history.
+/// An entry of the journal, which is the pool's event log.
 #[derive(Debug, Drop)]
 pub struct Entry {
-    /// The number of the maker: 0 for the frames, 1 and so on for the loaders.
+    /// The maker: 0 for the frames, n for loader n.
     pub by: u32,
-    /// What the maker did.
+    /// The event.
     pub what: What,
 }
 
-/// A journal's entries, in order. A contract sees the list itself.
+/// The entries of a journal, the earliest first. A contract sees the list.
 #[derive(Debug, Drop)]
 pub struct Entries {
     items: Vec<Entry>,
@@ -134,21 +135,21 @@ impl Model for Entries {
 }
 
 impl Entries {
-    /// The journal of these entries. Takes no memory.
+    /// Wraps the entries. Takes no memory.
     pub fn of(items: Vec<Entry>) -> Entries
         ensures { result ≡ items.items }
     {
         Entries { items }
     }
 
-    /// The entries, the earliest first.
+    /// Returns the entries, the earliest first.
     pub fn as_slice(&self) -> &[Entry]
         ensures { result.now ≡ self.now }
     {
         self.items.as_slice()
     }
 
-    /// The vector that holds the entries. Takes no memory.
+    /// Returns the vector of the entries. Takes no memory.
     pub fn into_vec(self) -> Vec<Entry>
         ensures { result.items ≡ self }
     {

@@ -7,7 +7,7 @@ ghost use Rattle.journal.specs.Grammar.{after_word, is_empty, single, pair, fiel
 
 use std::marker::Model;
 
-/// What stands before the first byte `at`, and what stands after it, where there is one.
+/// Returns the bytes before the first `at`, and the bytes after it; if there is no `at`, all bytes and None.
 pub fn cut_at(bytes: &[u8], at: u8) -> (&[u8], Option<&[u8]>)
     ensures apart { All (λ byte. (byte == at) ≡ false) result.0.now }
     ensures whole { MatchOption result.1 (bytes.now ≡ result.0.now)
@@ -19,14 +19,15 @@ pub fn cut_at(bytes: &[u8], at: u8) -> (&[u8], Option<&[u8]>)
     }
 }
 
-/// Whether a field is the word.
+/// Whether the field is the word.
 pub fn is_word(field: &[u8], word: &[u8]) -> bool
     ensures { result ≡ bytes_eq field.now word.now }
 {
     field == word
 }
 
-/// The fields of a line that are still to be read. A contract sees the list of them.
+/// The fields of a line that are not yet read, separated by single spaces. A contract sees the list of
+/// them.
 #[derive(Drop)]
 pub struct Fields<'a> {
     rest: Option<&'a [u8]>,
@@ -39,14 +40,14 @@ impl<'a> Model for Fields<'a> {
 }
 
 impl<'a> Fields<'a> {
-    /// The fields of a line: what stands between its spaces.
+    /// Returns the fields of a line: the bytes between its spaces, at least one field.
     pub fn from_line(line: &'a [u8]) -> Fields<'a>
         ensures { result ≡ fields_of line.now }
     {
         Fields { rest: Some(line) }
     }
 
-    /// The same fields once more.
+    /// Returns the fields, and leaves them to be read again.
     pub fn reborrow(&self) -> Fields<'a>
         ensures { result ≡ self.now }
     {
@@ -60,7 +61,7 @@ impl<'a> Fields<'a> {
         self.rest.is_none()
     }
 
-    /// The first field, and those after it.
+    /// Returns the first field and the fields after it, or None if there is no field.
     pub fn split_first(self) -> Option<(&'a [u8], Fields<'a>)>
         ensures { MatchOption result (self.entry ≡ [])
             (λ found. self.entry ≡ found.0.now ∷ found.1) }
@@ -69,7 +70,7 @@ impl<'a> Fields<'a> {
         Some((field, Fields { rest }))
     }
 
-    /// The one field, where there is one alone.
+    /// Returns the field if there is exactly one.
     pub fn single(self) -> Option<&'a [u8]>
         ensures { option_map (λ field. field.now) result ≡ single self.entry }
     {
@@ -80,7 +81,7 @@ impl<'a> Fields<'a> {
         }
     }
 
-    /// The two fields, where there are two alone.
+    /// Returns the fields if there are exactly two.
     pub fn pair(self) -> Option<(&'a [u8], &'a [u8])>
         ensures { option_map (λ found. (found.0.now, found.1.now)) result ≡ pair self.entry }
     {
@@ -88,7 +89,7 @@ impl<'a> Fields<'a> {
         Some((first, rest.single()?))
     }
 
-    /// The three fields, where there are three alone.
+    /// Returns the fields if there are exactly three.
     pub fn triple(self) -> Option<(&'a [u8], &'a [u8], &'a [u8])>
         ensures { option_map (λ found. (found.0.now, found.1.now, found.2.now)) result ≡
             triple self.entry }
@@ -98,7 +99,7 @@ impl<'a> Fields<'a> {
         Some((first, second, third))
     }
 
-    /// The fields after the word, where it is the first.
+    /// Returns the fields after the first if the first is the word.
     pub fn after_word(self, word: &[u8]) -> Option<Fields<'a>>
         ensures { result ≡ after_word word.now self.entry }
     {

@@ -3,23 +3,23 @@ use crate::layouts::Layout;
 use geom_core::Memory;
 use thiserror::Error;
 
-/// A pool's layout and its history: what the text of a journal spells.
+/// A pool's layout and its event log: what the text of a journal spells.
 #[derive(Debug, Drop)]
 pub struct Journal {
-    /// What the pool manages.
+    /// The pages and slots of the pool.
     pub layout: Layout,
-    /// What was done to it, the earliest first.
+    /// The entries, the earliest first.
     pub entries: Entries,
 }
 
-/// Why a text gives no journal.
+/// Why no journal was read. Of two lines outside the grammar the first is reported.
 #[derive(Clone, Copy, Debug, PartialEq, Eq, Error)]
 pub enum JournalFault {
     /// The text has a line outside the grammar.
     #[error("line {line}")]
     Line {
-        /// The first such line, counted from 1 over all lines, also those that begin with `#`. Where
-        /// no line stands for the layout it is the line after the last one.
+        /// The number of the first such line, from 1, comments included. If the text has no layout line and
+        /// no other line outside the grammar, it is the number of lines plus 1.
         line: u64,
     },
     /// Memory ran out.
@@ -43,7 +43,7 @@ mod tests {
     use super::*;
     use crate::entries::Entry;
 
-    /// Threads may hold and share a value of this type.
+    /// Compiles only if threads may hold and share a value of this type.
     fn is_shared<T: Send + Sync>() -> bool {
         true
     }

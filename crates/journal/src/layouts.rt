@@ -3,7 +3,8 @@ ghost use Rattle.std.specs.Prelude.{◌≡◌, List, ℕ};
 use geom_core::Nums;
 use std::marker::Model;
 
-/// Each page's uppers, by page number. A contract sees the list of lists.
+/// The pages that each page depends on directly (its dependencies), by page. A contract sees the list of
+/// lists.
 #[derive(Debug, Drop)]
 pub struct Uppers {
     items: Vec<Nums>,
@@ -16,14 +17,14 @@ impl Model for Uppers {
 }
 
 impl Uppers {
-    /// The uppers of page 0, of page 1 and so on. Takes no memory.
+    /// Wraps the uppers of page 0, of page 1 and so on. Takes no memory.
     pub fn of(items: Vec<Nums>) -> Uppers
         ensures { result ≡ items.items }
     {
         Uppers { items }
     }
 
-    /// The uppers of each page, in the order of the pages.
+    /// Returns the uppers of each page, by page.
     pub fn as_slice(&self) -> &[Nums]
         ensures { result.now ≡ self.now }
     {
@@ -31,25 +32,26 @@ impl Uppers {
     }
 }
 
-/// What a pool manages: how many pages there are, which stay, how many fit, and which page stands on
-/// which.
+/// What a pool manages: its pages, which of them are always resident, its slots, and which page depends on
+/// which. The clause of `is_in_bounds` states the ranges.
 #[derive(Debug, Drop)]
 pub struct Layout {
-    /// The number of pages, 1 to 2^23.
+    /// The number of pages, 1 to `MAX_PAGES`.
     pub pages: u32,
-    /// The number of root pages: those below this number are always resident. 1 to `pages`.
+    /// The number of root pages, 1 to `pages`. The pages below this number are always resident.
     pub roots: u32,
-    /// How many pages may be resident or being loaded at a time, `roots` to 2^23.
+    /// The number of slots, `roots` to `MAX_PAGES`. At most this many pages are resident or loading
+    /// at a time.
     pub slots: u32,
-    /// For each page its uppers, the pages that it directly stands on: ascending, each below the page.
-    /// A page is loaded only while its uppers are resident.
+    /// The pages that each page depends on directly, by page: ascending, each below the page. A page is
+    /// loaded only while its uppers are resident.
     pub uppers: Uppers,
 }
 
 impl Layout {
     ghost use Rattle.journal.specs.Layout.{uppers_of, is_upper};
 
-    /// The uppers of a page; none where there is no such page.
+    /// Returns the uppers of a page; none if there is no such page.
     pub fn uppers_of(&self, page: u32) -> &[u32]
         ensures { result.now ≡ uppers_of self.now page }
     {

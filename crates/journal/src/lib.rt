@@ -1,9 +1,9 @@
-//! The journal of a page pool: its layout, its entries, and the text that spells them.
+//! The event log of a page pool: its layout, its entries, and the text that spells them.
 //!
-//! A layout says which pages there are and which page stands on which; an entry says what one maker
-//! did. The text's grammar and its printing stand in `specs/`: [`read_journal`] reads a text, and what
-//! is printed reads back. What a journal does to a pool, and which entry may stand where, is no matter
-//! of the text; the crate `residency` says it.
+//! A layout states the pages and which page depends on which; an entry states what one maker did. The
+//! grammar of the text is `specs/Grammar`, its printing `specs/Spelling`: [`read_journal`] reads a text, and
+//! what is printed reads back. The state of a pool after a journal, and which entries are allowed, are
+//! defined in the crate `pool_rules`.
 #![tactic(auto)]
 
 mod bounds;

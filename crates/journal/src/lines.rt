@@ -8,7 +8,7 @@ use crate::page_lists::{pages_until_missing, parse_pages};
 use geom_core::{Memory, Nums};
 use std::alloc::Global;
 
-/// `F` or `P` alone.
+/// Returns the number of a line's rest that is one number: `F` or `P`.
 #[tactic(auto, unfolding(crate::specs::Grammar::single_number_of))]
 fn single_number(fields: Fields) -> Option<u32>
     ensures { result ≡ single_number_of fields.entry }
@@ -16,7 +16,7 @@ fn single_number(fields: Fields) -> Option<u32>
     parse_u32(fields.single()?)
 }
 
-/// `F P V`.
+/// Returns the Take of `F P V`.
 #[tactic(auto, unfolding(crate::specs::Grammar::take_of))]
 fn parse_take(fields: Fields) -> Option<What>
     ensures { result ≡ take_of fields.entry }
@@ -29,7 +29,7 @@ fn parse_take(fields: Fields) -> Option<What>
     })
 }
 
-/// `P DIGEST`.
+/// Returns the Install of `P DIGEST`.
 #[tactic(auto, unfolding(crate::specs::Grammar::install_of))]
 fn parse_install(fields: Fields) -> Option<What>
     ensures { result ≡ install_of fields.entry }
@@ -41,7 +41,7 @@ fn parse_install(fields: Fields) -> Option<What>
     })
 }
 
-/// `P BEFORE AFTER`.
+/// Returns the Fail of `P BEFORE AFTER`.
 #[tactic(auto, unfolding(crate::specs::Grammar::fail_of))]
 fn parse_fail(fields: Fields) -> Option<What>
     ensures { result ≡ fail_of fields.entry }
@@ -54,7 +54,7 @@ fn parse_fail(fields: Fields) -> Option<What>
     })
 }
 
-/// `STATED FOUND` of a digest.
+/// Returns the digests of `STATED FOUND`.
 #[tactic(auto, unfolding(crate::specs::Grammar::spoilt_digest_of))]
 fn parse_spoilt_digest(fields: Fields) -> Option<Spoilt>
     ensures { result ≡ spoilt_digest_of fields.entry }
@@ -66,7 +66,7 @@ fn parse_spoilt_digest(fields: Fields) -> Option<Spoilt>
     })
 }
 
-/// `RULE OFFSET` of the grammar of pages.
+/// Returns the broken rule of `RULE OFFSET`.
 #[tactic(auto, unfolding(crate::specs::Grammar::spoilt_grammar_of))]
 fn parse_spoilt_grammar(fields: Fields) -> Option<Spoilt>
     ensures { result ≡ spoilt_grammar_of fields.entry }
@@ -78,7 +78,7 @@ fn parse_spoilt_grammar(fields: Fields) -> Option<Spoilt>
     })
 }
 
-/// `GOT` of a short file.
+/// Returns the number of bytes of `GOT`.
 #[tactic(auto, unfolding(crate::specs::Grammar::spoilt_short_of))]
 fn parse_spoilt_short(fields: Fields) -> Option<Spoilt>
     ensures { result ≡ spoilt_short_of fields.entry }
@@ -88,7 +88,7 @@ fn parse_spoilt_short(fields: Fields) -> Option<Spoilt>
     })
 }
 
-/// What was wrong, by its word.
+/// Returns what was wrong with the bytes, from the word and the fields after it.
 #[tactic(auto, unfolding(crate::specs::Grammar::spoilt_of))]
 fn parse_spoilt(word: &[u8], fields: Fields) -> Option<Spoilt>
     ensures { result ≡ spoilt_of word.now fields.entry }
@@ -104,7 +104,7 @@ fn parse_spoilt(word: &[u8], fields: Fields) -> Option<Spoilt>
     }
 }
 
-/// `P` and what was wrong.
+/// Returns the Spoil of `P` and what was wrong with the bytes.
 #[tactic(auto, unfolding(crate::specs::Grammar::spoil_of))]
 fn parse_spoil(fields: Fields) -> Option<What>
     ensures { result ≡ spoil_of fields.entry }
@@ -118,7 +118,7 @@ fn parse_spoil(fields: Fields) -> Option<What>
     })
 }
 
-/// Nothing, for the entry that has its word alone.
+/// Returns a Stop if no field is left.
 fn parse_stop(fields: Fields) -> Option<What>
     ensures { result ≡ stop_of fields.entry }
 {
@@ -129,7 +129,7 @@ fn parse_stop(fields: Fields) -> Option<What>
     }
 }
 
-/// `F pages L`.
+/// Returns the frame and the list of `F pages L`.
 #[tactic(auto, unfolding(crate::specs::Grammar::frame_and_pages_of))]
 fn frame_and_pages(alloc: Global, fields: Fields) -> Result<Option<(u32, Nums)>, Memory>
     ensures { IfOk result (λ found. found ≡ frame_and_pages_of fields.entry) }
@@ -143,7 +143,7 @@ fn frame_and_pages(alloc: Global, fields: Fields) -> Result<Option<(u32, Nums)>,
     Ok(parse_pages(alloc, list)?.map(|pages| (frame, pages)))
 }
 
-/// `F pages L missing L`.
+/// Returns the Settle of `F pages L missing L`.
 #[tactic(auto, unfolding(crate::specs::Grammar::settle_of))]
 fn parse_settle(alloc: Global, fields: Fields) -> Result<Option<What>, Memory>
     ensures { IfOk result (λ found. found ≡ settle_of fields.entry) }
@@ -164,7 +164,7 @@ fn parse_settle(alloc: Global, fields: Fields) -> Result<Option<What>, Memory>
     }))
 }
 
-/// What a maker did, by its word: an entry without a list of pages.
+/// Returns the event of a word that no list of pages follows.
 #[tactic(auto, unfolding(crate::specs::Grammar::event_without_list_of))]
 fn parse_event_without_list(word: &[u8], fields: Fields) -> Option<What>
     ensures { result ≡ event_without_list_of word.now fields.entry }
@@ -200,7 +200,7 @@ fn parse_event_without_list(word: &[u8], fields: Fields) -> Option<What>
     }
 }
 
-/// What a maker did, by its word.
+/// Returns the event of a word and the fields after it.
 #[tactic(auto, unfolding(crate::specs::Grammar::event_of))]
 fn parse_event(alloc: Global, word: &[u8], fields: Fields) -> Result<Option<What>, Memory>
     ensures { IfOk result (λ found. found ≡ event_of word.now fields.entry) }
@@ -216,7 +216,7 @@ fn parse_event(alloc: Global, word: &[u8], fields: Fields) -> Result<Option<What
     }
 }
 
-/// An entry: its maker's number, and what it did.
+/// Returns the entry of a line: its maker's number and the event. None if the line is not in the grammar.
 #[tactic(auto, unfolding(crate::specs::Grammar::entry_of))]
 pub fn parse_entry(alloc: Global, fields: Fields) -> Result<Option<Entry>, Memory>
     ensures { IfOk result (λ found. found ≡ entry_of fields.entry) }

@@ -8,21 +8,21 @@ ghost use Rattle.journal.specs.Grammar.{digest_of, is_digest_digit, is_numeral, 
 use crate::fields::is_word;
 use geom_core::Digest32;
 
-/// Whether a field has digits alone.
+/// Whether each byte of the field is a decimal digit.
 fn has_digits_alone(field: &[u8]) -> bool
     ensures { result ≡ list_all is_ascii_digit field.now }
 {
     field.iter().all(|byte| byte.is_ascii_digit())
 }
 
-/// Whether a field is a numeral: digits, at least one, and no zero before another digit.
+/// Whether the field is a numeral: at least one digit, no other byte, and no leading zero.
 fn is_numeral(field: &[u8]) -> bool
     ensures { result ≡ is_numeral field.now }
 {
     has_digits_alone(field) && !field.is_empty() && !(field[0] == b'0' && field.len() > 1)
 }
 
-/// The number of 64 bits that a field spells.
+/// Returns the number that the field spells, or None if it is no numeral or past 64 bits.
 pub fn parse_u64(field: &[u8]) -> Option<u64>
     ensures { result ≡ number_of (2 ^ 64) field.now }
 {
@@ -35,7 +35,7 @@ pub fn parse_u64(field: &[u8]) -> Option<u64>
     }
 }
 
-/// The number below `limit` that a field spells.
+/// Returns the number that the field spells, or None if it is no numeral or not below `limit`.
 #[tactic(auto, using(crate::proofs::Limits::number_none, crate::proofs::Limits::number_some))]
 pub fn parse_below(field: &[u8], limit: u64) -> Option<u32>
     requires { limit ≤ 2 ^ 32 }
@@ -49,14 +49,14 @@ pub fn parse_below(field: &[u8], limit: u64) -> Option<u32>
     }
 }
 
-/// The number of 32 bits that a field spells.
+/// Returns the number that the field spells, or None if it is no numeral or past 32 bits.
 pub fn parse_u32(field: &[u8]) -> Option<u32>
     ensures { result ≡ number_of (2 ^ 32) field.now }
 {
     parse_below(field, 1 << 32)
 }
 
-/// The number of 8 bits that a field spells.
+/// Returns the number that the field spells, or None if it is no numeral or past 8 bits.
 #[tactic(auto, using(crate::proofs::Limits::number_none, crate::proofs::Limits::number_some))]
 pub fn parse_u8(field: &[u8]) -> Option<u8>
     ensures { result ≡ number_of (2 ^ 8) field.now }
@@ -69,12 +69,12 @@ pub fn parse_u8(field: &[u8]) -> Option<u8>
     }
 }
 
-/// A field that has a number, or `-` for none.
+/// What a field says that has a number or `-`.
 #[derive(Clone, Copy)]
 pub enum Field {
-    /// The number.
+    /// A number.
     Number(u32),
-    /// `-`.
+    /// `-`, no number.
     Dash,
 }
 
@@ -92,7 +92,7 @@ impl Field {
     }
 }
 
-/// The number of 32 bits that a field spells, or `-`.
+/// Returns the number of 32 bits that the field spells or its `-`, or None if it is neither.
 pub fn parse_u32_or_dash(field: &[u8]) -> Option<Field>
     ensures { option_map number_in result ≡ number_or_dash_of field.now }
 {
@@ -103,7 +103,7 @@ pub fn parse_u32_or_dash(field: &[u8]) -> Option<Field>
     }
 }
 
-/// Whether a field has digits of a digest alone.
+/// Whether each byte of the field is a digit or one of the letters `a` to `f`.
 fn has_digest_digits_alone(field: &[u8]) -> bool
     ensures { result ≡ list_all is_digest_digit field.now }
 {
@@ -112,7 +112,7 @@ fn has_digest_digits_alone(field: &[u8]) -> bool
         .all(|byte| matches!(*byte, b'0'..=b'9' | b'a'..=b'f'))
 }
 
-/// The digest that a field spells, in 64 lower-case hexadecimal digits.
+/// Returns the digest that the field spells, or None if it is not 64 lower-case hexadecimal digits.
 pub fn parse_digest(field: &[u8]) -> Option<Digest32>
     ensures { result ≡ digest_of field.now }
 {

@@ -8,7 +8,7 @@ use crate::numbers::{parse_below, parse_u32};
 use geom_core::{Memory, Nums};
 use std::alloc::Global;
 
-/// The numbers below `limit` that the fields spell, each one.
+/// Returns the numbers that the fields spell, or None if some field spells no number below `limit`.
 fn parse_numbers(alloc: Global, fields: Fields, limit: u64) -> Result<Option<Vec<u32>>, Memory>
     requires { limit ≤ 2 ^ 32 }
     ensures { IfOk result (λ found.
@@ -26,7 +26,8 @@ fn parse_numbers(alloc: Global, fields: Fields, limit: u64) -> Result<Option<Vec
     Ok(Some(numbers))
 }
 
-/// The same, of at least one field.
+/// Returns the numbers that the fields spell, or None if there is no field or some field spells no number
+/// below `limit`.
 pub fn parse_some_numbers(alloc: Global, fields: Fields, limit: u64) -> Result<Option<Nums>, Memory>
     requires { limit ≤ 2 ^ 32 }
     ensures { IfOk result (λ found. found ≡ some_numbers_of limit fields.entry) }
@@ -37,7 +38,7 @@ pub fn parse_some_numbers(alloc: Global, fields: Fields, limit: u64) -> Result<O
     Ok(parse_numbers(alloc, fields, limit)?.map(Nums::of))
 }
 
-/// A list of pages: at least one number, or `-` for none.
+/// Returns the pages of a list: its numbers, of which there is at least one, or none for `-`.
 pub fn parse_pages(alloc: Global, fields: Fields) -> Result<Option<Nums>, Memory>
     ensures { IfOk result (λ found. found ≡ pages_of fields.entry) }
 {
@@ -47,7 +48,7 @@ pub fn parse_pages(alloc: Global, fields: Fields) -> Result<Option<Nums>, Memory
     }
 }
 
-/// The numbers before the first field `missing`, and the fields after it.
+/// Returns the numbers before the first field `missing`, and the fields after that field.
 fn numbers_until_missing<'a>(
     alloc: Global,
     fields: Fields<'a>,
@@ -70,7 +71,7 @@ fn numbers_until_missing<'a>(
     Ok(None)
 }
 
-/// `L missing`, and the fields after it.
+/// Returns the pages of the list before the field `missing`, and the fields after that field.
 pub fn pages_until_missing<'a>(
     alloc: Global,
     fields: Fields<'a>,

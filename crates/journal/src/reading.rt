@@ -12,18 +12,18 @@ use crate::journals::{Journal, JournalFault};
 use geom_core::Memory;
 use std::alloc::Global;
 
-/// What one line is, after the lines before it.
+/// What one line of a text is, given the lines before it.
 #[derive(Drop)]
 pub enum LineResult {
     /// A comment: what was read so far stays as it is.
     Comment,
     /// A line of the grammar: what was read so far, with this line.
     Accepted(JournalBuilder),
-    /// A line outside the grammar.
+    /// A line outside the grammar, or out of order.
     Bad,
 }
 
-/// The first line of a text, and what stands after its LF; None at the text's end.
+/// Returns the first line of a text without its LF, and the text after it; None if the text is empty.
 fn first_line(text: &[u8]) -> Option<(&[u8], &[u8])>
     ensures line { MatchOption result (lines_of text.now ≡ [])
         (λ found. lines_of text.now ≡ found.0.now ∷ lines_of found.1.now) }
@@ -40,7 +40,7 @@ fn first_line(text: &[u8]) -> Option<(&[u8], &[u8])>
     }
 }
 
-/// Whether a line begins with `#`.
+/// Whether the line begins with `#`.
 fn is_comment(text: &[u8]) -> bool
     ensures { result ≡ is_comment text.now }
 {
@@ -50,7 +50,7 @@ fn is_comment(text: &[u8]) -> bool
     }
 }
 
-/// What the lines up to a further one say, once its fields are told.
+/// Returns the journal so far with the line of these fields, or None if the line is not in the grammar.
 #[tactic(auto, unfolding(crate::specs::Grammar::with_line))]
 fn with_line(
     alloc: Global,
@@ -68,7 +68,7 @@ fn with_line(
     }
 }
 
-/// Reads one line, and takes what was read so far unless the line is a comment.
+/// Reads one line. Moves the journal so far into the answer, unless the line is a comment.
 #[tactic(auto, unfolding(crate::specs::LineResult::line_result))]
 fn read_line(
     alloc: Global,
@@ -87,11 +87,11 @@ fn read_line(
     }
 }
 
-/// The journal that a text spells, in one pass over its lines.
+/// Reads the journal that a text spells, in one pass over its lines.
 ///
-/// The first line is `layout PAGES ROOTS SLOTS`, with at most 2^23 pages and slots, root pages from 1
-/// to the pages, and slots for all of them. Then each page P that has uppers has `upper P L`: these
-/// pages ascend, and so do the uppers of each, all below P. Then each entry has a line, which begins
+/// The first line is `layout PAGES ROOTS SLOTS`, with 1 to `MAX_PAGES` pages, 1 to PAGES root pages,
+/// and ROOTS to `MAX_PAGES` slots. Then each page P that has uppers has a line `upper P L`, in ascending
+/// order of P; the uppers L of a page ascend and are below P. Then each entry has a line, which begins
 /// with its maker's number:
 ///
 /// | Entry | After the maker's number |
@@ -106,13 +106,14 @@ fn read_line(
 /// | `Starve` | `starve P` |
 /// | `Stop` | `stop` |
 ///
-/// One space stands between two fields of a line, and no other blank. A number is decimal, without a
-/// leading zero, and within its field's type; a digest has 64 lower-case hexadecimal digits; a list L
-/// has numbers, or is `-` where it is empty. LF ends a line, and may lack behind the last one. A line
-/// that begins with `#` is passed over anywhere, and counts as a line. Whether an entry may stand
-/// where it does is no matter of the text.
+/// Single spaces separate the fields of a line, and a line has no other blank. A number is decimal,
+/// without a sign or a leading zero, and within its type; a digest has 64 lower-case hexadecimal digits;
+/// a list L has numbers, or is `-` if it is empty. LF ends a line; the last line may lack it. A line that
+/// begins with `#` is a comment: it may be anywhere, changes nothing, and counts as a line. Whether the
+/// pool's rules allow an entry is not checked here.
 ///
-/// The memory taken grows with the text and with the layout's pages.
+/// Returns `Line` for the first line outside the grammar. `Memory` may come at any line. The memory taken
+/// grows with the text and with the number of pages.
 pub fn read_journal(alloc: Global, text: &[u8]) -> Result<Journal, JournalFault>
     ensures read { IfOk result (λ journal. journal_of text.now ≡ Ok journal) }
     ensures in_bounds { IfOk result (λ journal. InBounds journal.layout) }
@@ -145,7 +146,7 @@ mod tests {
     use std::alloc::Global;
     use std::test::Fail;
 
-    /// The entry of a line, as `Debug` writes it.
+    /// Returns the entry of a line, as `Debug` prints it.
     fn entry_read(alloc: Global, line: &str) -> Result<String, Fail> {
         let text = format!(in alloc; "layout 9 1 4\n{line}\n")?;
         let journal = read_journal(alloc, text.as_bytes())?;

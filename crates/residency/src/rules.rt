@@ -14,24 +14,25 @@ use crate::accounts::Account;
 use crate::nexts::next_in;
 use crate::pages::is_page_list;
 use crate::{Entry, Next, Spoilt, What};
+use geom_core::limits::PAGE_BYTES;
 use journal::ascends;
 use pool_state::{Plan, Standing};
 
-/// Whether the count of faults rose, or stays at its greatest.
+/// Whether the count of faults rose, or was and is at its maximum.
 fn rose(before: u64, after: u64) -> bool
     ensures { result ≡ rose before after }
 {
     before < after || before == u64::MAX && after == u64::MAX
 }
 
-/// Whether the bytes were wrong in the way that is told.
+/// Whether the bytes were wrong as the entry says.
 fn is_wrong(why: &Spoilt) -> bool
     ensures { result ≡ is_wrong why.now }
 {
     match why {
         Spoilt::Digest { stated, found } => stated != found,
-        Spoilt::Grammar { rule, offset } => 1 <= *rule && *rule <= 4 && *offset < 65_536,
-        Spoilt::Short { got } => *got < 65_536,
+        Spoilt::Grammar { rule, offset } => 1 <= *rule && *rule <= 4 && *offset < PAGE_BYTES,
+        Spoilt::Short { got } => *got < PAGE_BYTES,
     }
 }
 
