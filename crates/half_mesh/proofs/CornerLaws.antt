@@ -8,7 +8,8 @@ use Rattle.geom_core.specs.declared.points.Pt.{Pt}
 use Rattle.geom_core.specs.declared.triangles.Tri.{Tri}
 use Rattle.geom_core.specs.EdgeSum.{same_point}
 use Rattle.half_mesh.specs.declared.incidences.Incidence.{Incidence}
-use Rattle.half_mesh.specs.Around.{has_corner, triangles_around}
+use Rattle.geom_core.specs.Corners.{has_corner}
+use Rattle.half_mesh.specs.Around.{triangles_around}
 use Rattle.half_mesh.specs.Corners.{corner_at, corners_at, corners_of}
 use Rattle.half_mesh.specs.Incidences.{is_at, at_point}
 use Rattle.geom_core.proofs.PointLaws.{true≢false, same_point-from, same_point-refl}

@@ -1,8 +1,8 @@
 -- Rims as functions of edges: the sums that a rim has, and the rim that has given sums.
-use Rattle.std.proofs.Common.{◌≡◌, ◌≢◌, ℕ, zero, suc, ◌+◌, ◌<◌, ◌≤◌, Bool, true, false, not, ◌&&◌, ◌||◌, ℤ, pos, negsuc, ◌+ℤ◌, ◌-ℤ◌, neg_ℤ, List, [], ◌∷◌, ◌++◌, length, take, get_or, map, flat_map, All, Contains, ◌↔◌, cond, Ordering, FitsSigned, w32, inl, inr, refl, sym, ap, ◌∙◌, subst, arith, rules}
+use Rattle.std.proofs.Common.{◌≡◌, ◌≢◌, ℕ, zero, suc, ◌+◌, ◌<◌, ◌≤◌, Bool, true, false, ◌&&◌, ◌||◌, ℤ, pos, ◌+ℤ◌, ◌-ℤ◌, neg_ℤ, List, [], ◌∷◌, ◌++◌, length, take, get_or, map, flat_map, All, Contains, ◌↔◌, cond, Ordering, FitsSigned, w32, refl, sym, ap, ◌∙◌, subst, arith}
 use Rattle.std.proofs.lemmas.Int.{ints, int_wrap_fits}
 use Rattle.std.proofs.lemmas.Cmp.{eq_by_cmp_equiv}
-use Rattle.std.proofs.lemmas.List.{append-nil, length-append, take_all, get_or_default}
+use Rattle.std.proofs.lemmas.List.{append-nil, take_all, get_or_default}
 use Rattle.std.proofs.lemmas.List.Elements.{All-nil, All-head, All-tail}
 use Rattle.std.specs.Int.{int_wrap}
 use Rattle.std.specs.Bool.{Decides}
@@ -21,17 +21,18 @@ use Rattle.geom_core.specs.declared.triangles.Tri.{Tri}
 use Rattle.geom_core.specs.EdgeSum.{same_point, edges_of, edge_count, edge_sum, is_rim_edge, OnRim}
 use Rattle.geom_core.specs.Order.{is_before, point_cmp}
 use Rattle.geom_core.proofs.EdgeSumLaws.{edge_sum-none, edge_sum-append, edge_sum-first, edge_count-one, edge_sum-same, edge_sum-turned, is_rim_edge-turned}
-use Rattle.geom_core.proofs.PointLaws.{true≢false, point_cmp-total, derived_eq, derived_eq-is, same_point-is, same_point-from, same_point-refl, same_point-itself, same_point-before, before-from_is_before, is_before-itself, not_both, placed}
+use Rattle.geom_core.proofs.PointLaws.{true≢false, point_cmp-total, derived_eq, derived_eq-is, same_point-is, same_point-from, before-from_is_before, is_before-itself, not_both, placed}
 use Rattle.geom_core.proofs.PointLaws.Placed.{Before, Same, After}
 use Rattle.geom_core.specs.Limits.{HasGridCorners, IsGridPoint, is_grid_point}
-use Rattle.half_mesh.specs.Around.{has_corner, IsCornerOf}
+use Rattle.geom_core.specs.Corners.{has_corner, IsCornerIn}
+use Rattle.geom_core.proofs.CollapseCorners.{at_corner}
 use Rattle.half_mesh.specs.declared.edges.Edge.{Edge}
 use Rattle.half_mesh.specs.declared.terms.EdgeTerm.{EdgeTerm}
 use Rattle.half_mesh.specs.Order.{edge_cmp}
 use Rattle.half_mesh.specs.Rim.{EdgeSums, edge_sums, IsAscending, IsRim, IsRimEdge, IsRimOf, sum_on, same_edge, sum_in, sum_in_all, HaveSmallSums, AreRimsOf, all_of, ends_of}
 use Rattle.half_mesh.specs.Terms.{edge_of, term, total_at, term_of, terms_of, terms_in, terms_in_all, AddUpAlike, IsSumOf}
 use Rattle.half_mesh.proofs.EdgeLaws.{edge_cmp-total, edge_from_equal, derived_edge_eq, derived_edge_eq-is, same_edge-from, same_edge-itself, same_edge-before, same_edge-after, rim_edge-from, rim_edge-some, zero_unless, edge_sum-fits}
-use Rattle.half_mesh.proofs.TermLaws.{total_at-append, total_at-one, total_at-absent}
+use Rattle.half_mesh.proofs.TermLaws.{total_at-append, total_at-one}
 
 add_nothing : (a : ℤ) → a +ℤ pos 0 ≡ a
 add_nothing a = omega (arith, ints)
@@ -669,31 +670,32 @@ no_edge t p q none = by (same_point t.a p) (same_point t.b p) (same_point t.c p)
     by false false false a b c h =
         rw (edge_count-one t p q, edge_count-one t q p, a, b, c, never (same_point t.a q), never (same_point t.b q), never (same_point t.c q)) refl
 
-pub corner_of : (tris : List Tri) (p q : Pt) → edge_sum tris p q ≢ pos 0 → IsCornerOf tris p
+pub corner_of : (tris : List Tri) (p q : Pt) → edge_sum tris p q ≢ pos 0 → IsCornerIn tris p
 corner_of [] p q some = absurd (some (edge_sum-none p q))
 corner_of (t ∷ tris) p q some = by (corner_of tris p q) (has_corner p t) refl
   where
-    by : (edge_sum tris p q ≢ pos 0 → IsCornerOf tris p) → (b : Bool) → has_corner p t ≡ b → IsCornerOf (t ∷ tris) p
-    by rest true here = (t, (0, omega arith, refl), here)
+    by : (edge_sum tris p q ≢ pos 0 → IsCornerIn tris p) → (b : Bool) → has_corner p t ≡ b → IsCornerIn (t ∷ tris) p
+    by rest true here = (0, t, omega arith, refl, here)
     by rest false none =
         let there = rest (λ nothing. some (edge_sum-first t tris p q ∙ rw (no_edge t p q none, nothing) refl)) in
-        (there.0, (suc there.1.0, omega (arith, there.1.1), there.1.2), there.2)
+        (suc there.0, there.1, omega (arith, there.2), there.3, there.4)
 
 all_contained : {X : Type 0} (P : X → Type 0) (xs : List X) → ((x : X) → Contains xs x → P x) → All P xs
 all_contained P xs each k d in_bounds =
     each (get_or xs k d) (k, in_bounds, get_or_default xs k (get_or xs k d) d in_bounds)
 
 pub law-ends_are_corners : (tris : List Tri) (rim : EdgeSums) → IsRimOf tris rim.edges rim.sums →
-    All (IsCornerOf tris) (ends_of rim.edges)
+    All (IsCornerIn tris) (ends_of rim.edges)
 law-ends_are_corners tris rim is =
-    all_contained (IsCornerOf tris) (ends_of rim.edges)
+    all_contained (IsCornerIn tris) (ends_of rim.edges)
     (λ p there.
     let on = (ends_on_rim tris rim.edges rim.sums is p).0 there in
     corner_of tris p on.0 (rim_edge-some tris p on.0 on.1))
 
 grid_corner : (t : Tri) (p : Pt) → HasGridCorners t → has_corner p t ≡ true → IsGridPoint p
-unfolding has_corner
-grid_corner t p in_grid here = by (same_point t.a p) (same_point t.b p) (same_point t.c p) refl refl refl here
+grid_corner t p in_grid here =
+    let each = parts (is_grid_point t.a) (is_grid_point t.b) (is_grid_point t.c) in_grid in
+    at_corner IsGridPoint p t each.0 each.1 each.2 here
   where
     parts : (a b c : Bool) → a && b && c ≡ true → (a ≡ true) × (b ≡ true) × (c ≡ true)
     parts true true true h = (refl, refl, refl)
@@ -701,18 +703,9 @@ grid_corner t p in_grid here = by (same_point t.a p) (same_point t.b p) (same_po
     parts true false c h = absurd (cc h)
     parts false b c h = absurd (cc h)
 
-    each : IsGridPoint t.a × IsGridPoint t.b × IsGridPoint t.c
-    each = parts (is_grid_point t.a) (is_grid_point t.b) (is_grid_point t.c) in_grid
-
-    by : (x y z : Bool) → same_point t.a p ≡ x → same_point t.b p ≡ y → same_point t.c p ≡ z → x || y || z ≡ true → IsGridPoint p
-    by true y z a b c h = subst IsGridPoint (same_point-from t.a p a) each.0
-    by false true z a b c h = subst IsGridPoint (same_point-from t.b p b) each.1
-    by false false true a b c h = subst IsGridPoint (same_point-from t.c p c) each.2
-    by false false false a b c h = absurd (cc h)
-
 pub law-ends_are_grid_points : (tris : List Tri) (rim : EdgeSums) → IsRimOf tris rim.edges rim.sums →
     All HasGridCorners tris → All IsGridPoint (ends_of rim.edges)
 law-ends_are_grid_points tris rim is in_grid k d in_bounds =
     let corner = law-ends_are_corners tris rim is k d in_bounds in
-    grid_corner corner.0 (get_or (ends_of rim.edges) k d)
-    (subst HasGridCorners corner.1.2 (in_grid corner.1.0 corner.0 corner.1.1)) corner.2
+    grid_corner corner.1 (get_or (ends_of rim.edges) k d)
+    (subst HasGridCorners corner.3 (in_grid corner.0 corner.1 corner.2)) corner.4

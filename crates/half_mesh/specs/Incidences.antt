@@ -1,5 +1,5 @@
 -- Incidences: things that lie at points.
-use Rattle.std.specs.Prelude.{◌≡◌, Bool, List, [], ◌∷◌, filter}
+use Rattle.std.specs.Prelude.{Bool, List, filter}
 use Rattle.std.specs.List.Sorted.{IsSortedByKey}
 use Rattle.geom_core.specs.declared.points.Pt.{Pt}
 use Rattle.geom_core.specs.EdgeSum.{same_point}

@@ -3,9 +3,9 @@ ghost use Rattle.std.specs.Prelude.{◌≡◌, ◌≤◌, ◌↔◌, List, lengt
 ghost use Rattle.geom_core.specs.declared.limits.TheConstants.{MAX_SUMMED_TRIANGLES};
 ghost use Rattle.geom_core.specs.declared.points.Pt.{Pt};
 ghost use Rattle.geom_core.specs.declared.triangles.Tri.{Tri};
+ghost use Rattle.geom_core.specs.Corners.{IsCornerIn};
 ghost use Rattle.geom_core.specs.EdgeSum.{edge_sum, OnRim};
 ghost use Rattle.geom_core.specs.Limits.{HasGridCorners, IsGridPoint};
-ghost use Rattle.half_mesh.specs.Around.{IsCornerOf};
 ghost use Rattle.half_mesh.specs.Rim.{EdgeSums, IsRimOf, AreRimsOf, HaveSmallSums, all_of, ends_of};
 
 /// A law: two lists have the same rim exactly if their sums agree at all pairs of points.
@@ -24,7 +24,7 @@ pub fn ends_are_on_rim()
 /// A law: each end of a rim's edges is a corner of one of the triangles.
 pub fn ends_are_corners()
     ensures { (tris : List Tri) (rim : EdgeSums) → IsRimOf tris rim.edges rim.sums →
-        All (IsCornerOf tris) (ends_of rim.edges) }
+        All (IsCornerIn tris) (ends_of rim.edges) }
 {}
 
 /// A law: where all corners of the triangles are points of a mesh, so are the ends of the rim's edges.

@@ -1,7 +1,4 @@
-use Rattle.std.proofs.Common.{◌≡◌, ◌+ℤ◌, get_or, w32, to_z, of_z, [], rules, sym, ap, ◌∙◌}
-use Rattle.std.proofs.lemmas.Int.{wraps}
-use Rattle.std.specs.Int.{int_wrap}
-use Rattle.half_mesh.specs.declared.terms.EdgeTerm.{EdgeTerm}
+use Rattle.std.proofs.Common.{w32, to_z, sym, ap, ◌∙◌}
 use Rattle.half_mesh.proofs.TermLaws.{nothing_to_add, adding_start, adding_equal, adding_later, adding_done}
 use Rattle.half_mesh.proofs.terms.add_up.Goals as goal
 use Rattle.half_mesh.proofs.terms.add_up.Goals.{then-eq, else-eq+in_ok-push_sum}

@@ -1,6 +1,4 @@
-use Rattle.std.proofs.Common.{◌++◌, pos, ap, sym, ◌∙◌, arith}
-use Rattle.std.proofs.lemmas.List.{append-nil, append_assoc}
-use Rattle.half_mesh.specs.Terms.{terms_in}
+use Rattle.std.proofs.Common.{sym}
 use Rattle.half_mesh.proofs.TermLaws.{terms_in-nothing, terms_in-pushed}
 use Rattle.half_mesh.proofs.terms.push_sums.Goals as goal
 

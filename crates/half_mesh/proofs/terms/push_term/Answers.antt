@@ -2,7 +2,7 @@ use Rattle.std.proofs.Common.{◌≡◌, true, false, ap, sym, ◌∙◌}
 use Rattle.std.specs.Ordering.{is_lt, ordering_reverse}
 use Rattle.std.proofs.lemmas.List.{append-nil}
 use Rattle.geom_core.specs.Order.{is_before}
-use Rattle.geom_core.proofs.PointLaws.{point_cmp-total, not_both}
+use Rattle.geom_core.proofs.PointLaws.{point_cmp-total}
 use Rattle.half_mesh.specs.Terms.{term_of}
 use Rattle.half_mesh.proofs.terms.push_term.Goals as goal
 
