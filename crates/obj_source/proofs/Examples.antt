@@ -9,7 +9,7 @@ use Rattle.obj_source.specs.declared.faults.ObjWhy.TheVariants.{BadNumber, OutOf
 use Rattle.obj_source.specs.Lines.{words_of, without_return}
 use Rattle.obj_source.specs.Numerals.{coordinate_of, numeral_of, exponent_of, scaled}
 use Rattle.obj_source.specs.Mesh.{mesh, with_line, vertex_of, face_of, corner_of, vertex_named}
-use Rattle.obj_source.specs.SourceTriangles.{has_distinct_corners}
+use Rattle.geom_core.specs.Limits.{has_distinct_corners}
 
 abbrev point : ℤ → ℤ → ℤ → Pt
 point x y z = record { x = x; y = y; z = z }

@@ -1,4 +1,3 @@
-mod Apart
 pub mod CoordinateLaws
 pub mod DigitLaws
 mod Examples

@@ -6,12 +6,13 @@ use Rattle.std.proofs.Math.Seq.{take-append-add}
 use Rattle.std.proofs.lemmas.Bool.{le-leb, lt-leb}
 use Rattle.std.proofs.lemmas.List.{append-nil, take_at}
 use Rattle.std.proofs.lemmas.List.Splits.{slice_split_none}
+use Rattle.geom_core.specs.declared.limits.TheConstants.{MAX_OBJ_BYTES, MAX_TRIANGLES}
 use Rattle.geom_core.specs.declared.triangles.Tri.{Tri}
 use Rattle.obj_source.specs.declared.faults.ObjFault.{ObjFault}
 use Rattle.obj_source.specs.declared.faults.ObjFault.TheVariants.{Line, TooMany, TooLong}
 use Rattle.obj_source.specs.declared.faults.ObjWhy.{ObjWhy}
 use Rattle.obj_source.specs.Lines.{is_line_feed, lines_of, words_of}
-use Rattle.obj_source.specs.Mesh.{◌>>=◌, MeshSoFar, nothing, vertex_of, face_of, at_line, begins_with, with_vertex, with_triangles, with_line, read_lines, some_triangles, longest, ended_lines, mesh}
+use Rattle.obj_source.specs.Mesh.{◌>>=◌, MeshSoFar, nothing, vertex_of, face_of, at_line, begins_with, with_vertex, with_triangles, with_line, read_lines, some_triangles, ended_lines, mesh}
 
 -- a reading of two steps behind a first one
 behind_first : (first : Result MeshSoFar ObjFault) (whole one two : MeshSoFar → Result MeshSoFar ObjFault) → ((mesh_so_far : MeshSoFar) → whole mesh_so_far ≡ (one mesh_so_far >>= two)) → (first >>= whole) ≡ (first >>= one >>= two)
@@ -34,7 +35,7 @@ pub read_lines-fault : (scale : ℕ) (mesh_so_far : MeshSoFar) (line : ℕ) (xs 
 read_lines-fault scale mesh_so_far line xs ys fault e =
     read_lines-append scale mesh_so_far line xs ys ∙ ap (λ (r : Result MeshSoFar ObjFault). r >>= (λ more. read_lines scale more (line + length xs) ys)) e
 
--- where there was none, the reading goes on over what was mesh_so_far
+-- where there was none, the reading goes on over the mesh so far
 pub read_lines-on : (scale : ℕ) (mesh_so_far more : MeshSoFar) (line : ℕ) (xs ys : List (List ℕ)) → read_lines scale mesh_so_far line xs ≡ Ok more → read_lines scale mesh_so_far line (xs ++ ys) ≡ read_lines scale more (line + length xs) ys
 read_lines-on scale mesh_so_far more line xs ys e =
     read_lines-append scale mesh_so_far line xs ys ∙ ap (λ (r : Result MeshSoFar ObjFault). r >>= (λ then. read_lines scale then (line + length xs) ys)) e
@@ -88,31 +89,31 @@ ended_lines-last front last none =
     ended_lines-append front last ∙ ap (λ (l : List (List ℕ)). lines_of front ++ l) (ended_lines-none last none) ∙ append-nil (lines_of front)
 
 -- a text of at most 2^28 bytes is read whole
-pub mesh-short : (scale : ℕ) (text : List ℕ) → length text ≤ longest → mesh scale text ≡ (read_lines scale nothing 1 (lines_of text) >>= some_triangles)
+pub mesh-short : (scale : ℕ) (text : List ℕ) → length text ≤ MAX_OBJ_BYTES → mesh scale text ≡ (read_lines scale nothing 1 (lines_of text) >>= some_triangles)
 unfolding mesh
-mesh-short scale text short = rw (le-leb (length text) longest short)
+mesh-short scale text short = rw (le-leb (length text) MAX_OBJ_BYTES short)
 
 -- of a longer one the lines that end among the first 2^28 bytes
-pub mesh-long : (scale : ℕ) (first rest : List ℕ) → length first ≡ longest → 0 < length rest → mesh scale (first ++ rest) ≡ (read_lines scale nothing 1 (ended_lines first) >>= (λ mesh_so_far. Err TooLong))
+pub mesh-long : (scale : ℕ) (first rest : List ℕ) → length first ≡ MAX_OBJ_BYTES → 0 < length rest → mesh scale (first ++ rest) ≡ (read_lines scale nothing 1 (ended_lines first) >>= (λ mesh_so_far. Err TooLong))
 unfolding mesh
 mesh-long scale first rest long more =
-    let past : longest < length (first ++ rest) = omega (arith, length-append first rest) in
-    rw (lt-leb (length (first ++ rest)) longest past, take_at first rest longest long)
+    let past : MAX_OBJ_BYTES < length (first ++ rest) = omega (arith, length-append first rest) in
+    rw (lt-leb (length (first ++ rest)) MAX_OBJ_BYTES past, take_at first rest MAX_OBJ_BYTES long)
 
 -- the lines that end among the first 2^28 bytes begin with those that stand before an LF there
-take_past : (front rest : List ℕ) → length front < longest → take longest (front ++ 10 ∷ rest) ≡ front ++ 10 ∷ take (longest - length front - 1) rest
+take_past : (front rest : List ℕ) → length front < MAX_OBJ_BYTES → take MAX_OBJ_BYTES (front ++ 10 ∷ rest) ≡ front ++ 10 ∷ take (MAX_OBJ_BYTES - length front - 1) rest
 take_past front rest short =
-    let same : longest ≡ length front + suc (longest - length front - 1) = omega arith in
-    ap (λ n. take n (front ++ 10 ∷ rest)) same ∙ take-append-add front (10 ∷ rest) (suc (longest - length front - 1))
+    let same : MAX_OBJ_BYTES ≡ length front + suc (MAX_OBJ_BYTES - length front - 1) = omega arith in
+    ap (λ n. take n (front ++ 10 ∷ rest)) same ∙ take-append-add front (10 ∷ rest) (suc (MAX_OBJ_BYTES - length front - 1))
 
 fault_whole : (scale : ℕ) (front rest : List ℕ) (fault : ObjFault) → read_lines scale nothing 1 (lines_of front) ≡ Err fault → read_lines scale nothing 1 (lines_of (front ++ 10 ∷ rest)) ≡ Err fault
 fault_whole scale front rest fault e =
     ap (read_lines scale nothing 1) (lines_of-append front rest)
     ∙ read_lines-fault scale nothing 1 (lines_of front) (lines_of rest) fault e
 
-fault_cut : (scale : ℕ) (front rest : List ℕ) (fault : ObjFault) → length front < longest → read_lines scale nothing 1 (lines_of front) ≡ Err fault → read_lines scale nothing 1 (ended_lines (take longest (front ++ 10 ∷ rest))) ≡ Err fault
+fault_cut : (scale : ℕ) (front rest : List ℕ) (fault : ObjFault) → length front < MAX_OBJ_BYTES → read_lines scale nothing 1 (lines_of front) ≡ Err fault → read_lines scale nothing 1 (ended_lines (take MAX_OBJ_BYTES (front ++ 10 ∷ rest))) ≡ Err fault
 fault_cut scale front rest fault short e =
-    let behind = take (longest - length front - 1) rest in
+    let behind = take (MAX_OBJ_BYTES - length front - 1) rest in
     ap (λ (text : List ℕ). read_lines scale nothing 1 (ended_lines text)) (take_past front rest short)
     ∙ ap (read_lines scale nothing 1) (ended_lines-append front behind)
     ∙ read_lines-fault scale nothing 1 (lines_of front) (ended_lines behind) fault e
@@ -125,12 +126,12 @@ either true one two x e f = e
 either false one two x e f = f
 
 -- the first fault of lines that ended among the first 2^28 bytes is the text's, whatever follows
-pub mesh-fault : (scale : ℕ) (front rest : List ℕ) (fault : ObjFault) → length front < longest → read_lines scale nothing 1 (lines_of front) ≡ Err fault → mesh scale (front ++ 10 ∷ rest) ≡ Err fault
+pub mesh-fault : (scale : ℕ) (front rest : List ℕ) (fault : ObjFault) → length front < MAX_OBJ_BYTES → read_lines scale nothing 1 (lines_of front) ≡ Err fault → mesh scale (front ++ 10 ∷ rest) ≡ Err fault
 unfolding mesh
 mesh-fault scale front rest fault short e =
     let whole = fault_stays (read_lines scale nothing 1 (lines_of (front ++ 10 ∷ rest))) fault some_triangles (fault_whole scale front rest fault e) in
-    let cut = fault_stays (read_lines scale nothing 1 (ended_lines (take longest (front ++ 10 ∷ rest)))) fault (λ mesh_so_far. Err TooLong) (fault_cut scale front rest fault short e) in
-    either (leb (length (front ++ 10 ∷ rest)) longest) _ _ (Err fault) whole cut
+    let cut = fault_stays (read_lines scale nothing 1 (ended_lines (take MAX_OBJ_BYTES (front ++ 10 ∷ rest)))) fault (λ mesh_so_far. Err TooLong) (fault_cut scale front rest fault short e) in
+    either (leb (length (front ++ 10 ∷ rest)) MAX_OBJ_BYTES) _ _ (Err fault) whole cut
 
 -- the fault of a line of this number
 abbrev pub IsLineFault : ℕ → ObjFault → Type 0
@@ -158,7 +159,7 @@ face_fault : (mesh_so_far : MeshSoFar) (line : ℕ) (words : List (List ℕ)) (f
 face_fault mesh_so_far line words fault e =
     one_fault (IsLineFault line) (at_line line (face_of mesh_so_far.vertices words)) _ fault e
     (on_line_fault line (face_of mesh_so_far.vertices words) fault)
-    (λ tris many. inr (too_many (leb (length mesh_so_far.triangles + length tris) (2 ^ 20)) _ fault many))
+    (λ tris many. inr (too_many (leb (length mesh_so_far.triangles + length tris) MAX_TRIANGLES) _ fault many))
 
 by_kind : {P : Type 0} (is_vertex is_face : Bool) (vertex face other : Result MeshSoFar ObjFault) (fault : ObjFault) → cond is_vertex vertex (cond is_face face other) ≡ Err fault → (vertex ≡ Err fault → P) → (face ≡ Err fault → P) → (other ≡ Err fault → P) → P
 by_kind true is_face vertex face other fault e one two three = one e

@@ -1,8 +1,12 @@
 -- Steps rounded to whole ones, by their sizes.
-use Rattle.std.proofs.Common.{◌≡◌, ℕ, zero, suc, ◌+◌, ◌-◌, ◌*◌, ◌/◌, ◌^◌, ◌<◌, ◌≤◌, Bool, true, false, ℤ, pos, negsuc, neg_ℤ, ◌+ℤ◌, ◌-ℤ◌, ◌*ℤ◌, ◌<ℤ◌, ◌≤ℤ◌, Ok, Err, refl, sym, ap, ◌∙◌, arith}
+use Rattle.std.proofs.Common.{◌≡◌, ℕ, zero, suc, ◌+◌, ◌-◌, ◌*◌, ◌/◌, ◌^◌, ◌<◌, ◌≤◌, Bool, true, false, ◌&&◌, leb, ℤ, pos, negsuc, neg_ℤ, ◌+ℤ◌, ◌-ℤ◌, ◌*ℤ◌, ◌<ℤ◌, ◌≤ℤ◌, Ok, Err, refl, sym, ap, ◌∙◌, arith}
 use Rattle.std.proofs.lemmas.Int.{ints}
 use mir.Val.{bool_byte}
 use Rattle.geom_core.proofs.FloorLaws.{floor_div-is}
+use Rattle.geom_core.specs.declared.limits.TheConstants.{MAX_COORDINATE, MAX_STEPS_PER_UNIT}
+use Rattle.geom_core.specs.Limits.{IsScale}
+use Rattle.std.specs.Prelude.{unsigned_abs}
+use Rattle.std.proofs.lemmas.Bool.{leb-true}
 use Rattle.std.proofs.Math.Nat.{mul-le-mul, div-eq_of_lt, zero-mul}
 use Rattle.std.proofs.lemmas.Bool.Decides.{nat_tests}
 use Rattle.obj_source.specs.declared.numbers.NumberWhy.TheVariants.{Range}
@@ -77,10 +81,24 @@ times_low_power is_negative n (negsuc k) low small =
     let size : 10 ^ 24 ≤ 10 ^ suc k = power_small 24 (suc k) (omega arith) in
     nearest_zero is_negative n (10 ^ suc k) (omega arith)
 
+-- a minus leaves the size
+signed-size : (is_negative : Bool) (n : ℕ) → unsigned_abs (signed is_negative n) ≡ n
+signed-size false n = refl
+signed-size true zero = refl
+signed-size true (suc n) = refl
+
+-- a number so far from 0 is outside of the grid, and any other is in it
+pub in_grid_far : (is_negative : Bool) (n : ℕ) → MAX_COORDINATE < n → in_grid (signed is_negative n) ≡ Err Range
+in_grid_far is_negative n far =
+    let outside : leb n MAX_COORDINATE ≡ false = grind (arith, nat_tests) in
+    rw (signed-size is_negative n, outside)
+
+pub in_grid_near : (is_negative : Bool) (n : ℕ) → n ≤ MAX_COORDINATE → in_grid (signed is_negative n) ≡ Ok (signed is_negative n)
+in_grid_near is_negative n near =
+    let inside : leb n MAX_COORDINATE ≡ true = grind (arith, nat_tests) in
+    rw (signed-size is_negative n, inside)
+
 -- a power so high takes any step out of the grid
-pub in_grid_far : (is_negative : Bool) (n : ℕ) → 1048576 < n → in_grid (signed is_negative n) ≡ Err Range
-in_grid_far false n far = grind (arith, nat_tests, ints)
-in_grid_far true n far = grind (arith, nat_tests, ints)
 
 pub times_high_power : (is_negative : Bool) (n : ℕ) (power : ℤ) → pos 6 <ℤ power → 1 ≤ n → in_grid (times_power (signed is_negative n) power) ≡ Err Range
 times_high_power is_negative n (pos k) high some =
@@ -104,13 +122,21 @@ coordinate_from_none scale is_negative digits behind exponent e =
     let none : digits * scale ≡ 0 = rw e (zero-mul _) in
     rw (none_times_power is_negative (digits * scale) (exponent -ℤ pos behind) none) refl
 
-pub steps_small : (digits scale : ℕ) → digits < 10 ^ 18 → scale ≤ 65536 → digits * scale < 2 ^ 76
+both-second : (a b : Bool) → a && b ≡ true → b ≡ true
+both-second true b both = both
+both-second false b both = absurd (cc)
+
+pub scale_limit : (scale : ℕ) → IsScale scale → scale ≤ MAX_STEPS_PER_UNIT
+scale_limit scale in_range =
+    leb-true scale MAX_STEPS_PER_UNIT (both-second (leb 1 scale) (leb scale MAX_STEPS_PER_UNIT) in_range)
+
+pub steps_small : (digits scale : ℕ) → digits < 10 ^ 18 → scale ≤ MAX_STEPS_PER_UNIT → digits * scale < 2 ^ 76
 steps_small digits scale few coarse =
     let most : digits ≤ 10 ^ 18 = omega arith in
-    let both : digits * scale ≤ 10 ^ 18 * 65536 = mul-le-mul most coarse in
+    let both : digits * scale ≤ 10 ^ 18 * MAX_STEPS_PER_UNIT = mul-le-mul most coarse in
     omega arith
 
 -- a point so far to the right makes 0 of any number
-pub coordinate_from_far : (scale : ℕ) (is_negative : Bool) (digits behind : ℕ) (exponent : ℤ) → digits < 10 ^ 18 → scale ≤ 65536 → exponent ≤ℤ pos 9999 → 20000 < behind → coordinate_from scale is_negative digits behind exponent ≡ Ok (pos 0)
+pub coordinate_from_far : (scale : ℕ) (is_negative : Bool) (digits behind : ℕ) (exponent : ℤ) → digits < 10 ^ 18 → scale ≤ MAX_STEPS_PER_UNIT → exponent ≤ℤ pos 9999 → 20000 < behind → coordinate_from scale is_negative digits behind exponent ≡ Ok (pos 0)
 coordinate_from_far scale is_negative digits behind exponent few coarse high far =
     rw (times_low_power is_negative (digits * scale) (exponent -ℤ pos behind) (omega (arith, ints)) (steps_small digits scale few coarse)) refl

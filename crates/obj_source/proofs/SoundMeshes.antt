@@ -1,11 +1,12 @@
--- The triangles of a mesh are source triangles, whatever the text.
-use Rattle.std.proofs.Common.{◌≡◌, ℕ, ◌+◌, ◌^◌, Bool, true, false, cond, eqb, leb, ltb, ◌&&◌, List, [], ◌∷◌, length, drop, length-append, ℤ, pos, negsuc, Option, Some, None, option_map, Result, Ok, Err, refl, subst, arith}
-use Rattle.std.specs.Prelude.{int_le}
+-- The triangles of a mesh are grid triangles, whatever the text.
+use Rattle.std.proofs.Common.{◌≡◌, ℕ, zero, suc, ◌+◌, ◌≤◌, Bool, true, false, cond, eqb, leb, ltb, ◌&&◌, List, [], ◌∷◌, length, drop, length-append, ℤ, Option, Some, None, option_map, Result, Ok, Err, refl, subst, arith}
+use Rattle.std.specs.Bool.{IsTrue}
 use Rattle.std.specs.List.{All, slice_get, filter}
 use Rattle.std.proofs.lemmas.Bool.{leb-true}
-use Rattle.std.proofs.lemmas.Int.{ints}
 use Rattle.std.proofs.lemmas.List.Elements.{All-nil, All-cons, All-head, All-tail, All-push, All-append, All-filter, filter_passes}
 use Rattle.std.proofs.lemmas.Option.{get_or_from_slice_get, slice_get_within}
+use Rattle.geom_core.specs.declared.limits.TheConstants.{MAX_OBJ_BYTES, MAX_TRIANGLES}
+use Rattle.geom_core.specs.Limits.{has_distinct_corners, is_grid_coordinate, IsGridCoordinate, IsGridPoint, IsGridTriangle, AreGridTriangles}
 use Rattle.geom_core.specs.declared.points.Pt.{Pt}
 use Rattle.geom_core.specs.declared.triangles.Tri.{Tri}
 use Rattle.obj_source.specs.declared.faults.ObjFault.{ObjFault}
@@ -15,10 +16,8 @@ use Rattle.obj_source.specs.declared.faults.ObjWhy.TheVariants.{ShortFace, BadCo
 use Rattle.obj_source.specs.declared.numbers.NumberWhy.{NumberWhy}
 use Rattle.obj_source.specs.declared.numbers.NumberWhy.TheVariants.{Bad, Range}
 use Rattle.obj_source.specs.Lines.{lines_of, words_of}
-use Rattle.obj_source.specs.Numerals.{Numeral, numeral_of, is_short, scaled, is_coordinate, in_grid, coordinate_in, coordinate_of, has_minus}
-use Rattle.obj_source.specs.Mesh.{◌>>=◌, number_at, coordinate_at, vertex_of, vertex_named, named_or, corner_of, corners_of, fan, face_of, MeshSoFar, nothing, with_vertex, with_triangles, at_line, begins_with, with_line, read_lines, some_triangles, longest, mesh}
-use Rattle.obj_source.specs.Readings.{Listed}
-use Rattle.obj_source.specs.SourceTriangles.{has_distinct_corners, InRange, IsSourcePoint, IsSourceTriangle, AreSourceTriangles}
+use Rattle.obj_source.specs.Numerals.{Numeral, numeral_of, is_short, scaled, in_grid, coordinate_in, coordinate_of, has_minus}
+use Rattle.obj_source.specs.Mesh.{◌>>=◌, number_at, coordinate_at, vertex_of, vertex_named, named_or, corner_of, corners_of, fan, face_of, MeshSoFar, nothing, with_vertex, with_triangles, at_line, begins_with, with_line, read_lines, some_triangles, mesh}
 
 same_ok : {A F : Type 0} (x y : A) → ◌≡◌ {A = Result A F} (Ok x) (Ok y) → x ≡ y
 same_ok x y e = cc
@@ -38,26 +37,26 @@ refused_ok : {A F : Type 0} (b : Bool) (fault : F) (found : Result A F) (x : A) 
 refused_ok true fault found x e = absurd (cc)
 refused_ok false fault found x e = e
 
-and_both : (a b : Bool) → a && b ≡ true → (a ≡ true) × (b ≡ true)
-and_both true b e = (refl, e)
-and_both false b e = absurd (cc)
+both_true : (a b : Bool) → IsTrue a → IsTrue b → IsTrue (a && b)
+both_true true b first second = second
+both_true false b first second = first
+
+all_true : (a b c : Bool) → IsTrue a → IsTrue b → IsTrue c → IsTrue (a && b && c)
+all_true a b c first second third = both_true (a && b) c (both_true a b first second) third
 
 -- a number that the grid lets through is within it
-grid_in_range : (n x : ℤ) → in_grid n ≡ Ok x → InRange x
+grid_in_range : (n x : ℤ) → in_grid n ≡ Ok x → IsGridCoordinate x
 grid_in_range n x e =
-    let passed = passed_ok (is_coordinate n) (Ok n) Range x e in
-    let within = and_both (int_le (negsuc 1048575) n) (int_le n (pos 1048576)) passed.0 in
-    let low = within.0 in
-    let high = within.1 in
-    subst InRange (same_ok n x passed.1) (record { low = grind (arith, ints); high = grind (arith, ints) })
+    let passed = passed_ok (is_grid_coordinate n) (Ok n) Range x e in
+    subst IsGridCoordinate (same_ok n x passed.1) passed.0
 
-numeral_in_range : (scale : ℕ) (numeral : Option Numeral) (x : ℤ) → coordinate_in scale numeral ≡ Ok x → InRange x
+numeral_in_range : (scale : ℕ) (numeral : Option Numeral) (x : ℤ) → coordinate_in scale numeral ≡ Ok x → IsGridCoordinate x
 numeral_in_range scale None x e = absurd (cc)
 numeral_in_range scale (Some n) x e =
     grid_in_range (scaled scale n) x (passed_ok (is_short n) (in_grid (scaled scale n)) Bad x e).1
 
 -- a coordinate is in the range
-pub coordinate_in_range : (scale : ℕ) (word : List ℕ) (x : ℤ) → coordinate_of scale word ≡ Ok x → InRange x
+pub coordinate_in_range : (scale : ℕ) (word : List ℕ) (x : ℤ) → coordinate_of scale word ≡ Ok x → IsGridCoordinate x
 unfolding coordinate_of
 coordinate_in_range scale word x e = numeral_in_range scale (numeral_of word) x e
 
@@ -67,22 +66,22 @@ read_there place (Ok n) x e = cc
 read_there place (Err Bad) x e = absurd (cc)
 read_there place (Err Range) x e = absurd (cc)
 
-pub number_in_range : (scale place : ℕ) (word : Option (List ℕ)) (x : ℤ) → number_at place (option_map (coordinate_of scale) word) ≡ Ok x → InRange x
+pub number_in_range : (scale place : ℕ) (word : Option (List ℕ)) (x : ℤ) → number_at place (option_map (coordinate_of scale) word) ≡ Ok x → IsGridCoordinate x
 number_in_range scale place None x e = absurd (cc)
 number_in_range scale place (Some word) x e = coordinate_in_range scale word x (read_there place (coordinate_of scale word) x e)
 
 -- the vertex of a `v` line is within the grid
-pub vertex_is_source : (scale : ℕ) (words : List (List ℕ)) (p : Pt) → vertex_of scale words ≡ Ok p → IsSourcePoint p
+pub vertex_is_source : (scale : ℕ) (words : List (List ℕ)) (p : Pt) → vertex_of scale words ≡ Ok p → IsGridPoint p
 unfolding vertex_of
 vertex_is_source scale words p e =
     let x = both_ok (coordinate_at scale words 1) _ p e in
     let y = both_ok (coordinate_at scale words 2) _ p x.2 in
     let z = both_ok (coordinate_at scale words 3) _ p y.2 in
-    subst IsSourcePoint (same_ok _ p z.2) (record {
-      x = number_in_range scale 1 (slice_get words 1) x.0 x.1;
-      y = number_in_range scale 2 (slice_get words 2) y.0 y.1;
-      z = number_in_range scale 3 (slice_get words 3) z.0 z.1;
-    })
+    subst IsGridPoint (same_ok _ p z.2)
+    (all_true (is_grid_coordinate x.0) (is_grid_coordinate y.0) (is_grid_coordinate z.0)
+    (number_in_range scale 1 (slice_get words 1) x.0 x.1)
+    (number_in_range scale 2 (slice_get words 2) y.0 y.1)
+    (number_in_range scale 3 (slice_get words 3) z.0 z.1))
 
 slice_get_all : (P : Pt → Type 0) (points : List Pt) (k : ℕ) (p : Pt) → All P points → slice_get points k ≡ Some p → P p
 slice_get_all P points k p all e = subst P (get_or_from_slice_get points k p p e) (all k p (slice_get_within points k p e))
@@ -137,51 +136,52 @@ fan_all P (a ∷ b ∷ c ∷ rest) all =
     (record { a = is_a; b = is_b; c = All-head P c rest others })
     (fan_all P (a ∷ c ∷ rest) (All-cons P a (c ∷ rest) is_a others))
 
--- those of them with three different corners are source triangles
-distinct_are_source : (tris : List Tri) → All (HasCorners IsSourcePoint) tris → All IsSourceTriangle (filter has_distinct_corners tris)
+-- those of them with three different corners are grid triangles
+distinct_are_source : (tris : List Tri) → All (HasCorners IsGridPoint) tris → All IsGridTriangle (filter has_distinct_corners tris)
 distinct_are_source tris all k d h =
-    let corners = All-filter has_distinct_corners (HasCorners IsSourcePoint) tris all k d h in
+    let corners = All-filter has_distinct_corners (HasCorners IsGridPoint) tris all k d h in
     let distinct = filter_passes has_distinct_corners tris k d h in
-    record { a = corners.a; b = corners.b; c = corners.c; distinct = rw distinct }
+    both_true _ _ (all_true _ _ _ corners.a corners.b corners.c) distinct
 
-pub face_is_source : (vertices : List Pt) (words : List (List ℕ)) (tris : List Tri) → All IsSourcePoint vertices → face_of vertices words ≡ Ok tris → All IsSourceTriangle tris
+pub face_is_source : (vertices : List Pt) (words : List (List ℕ)) (tris : List Tri) → All IsGridPoint vertices → face_of vertices words ≡ Ok tris → All IsGridTriangle tris
 unfolding face_of
 face_is_source vertices words tris all e =
     let points = both_ok (corners_of vertices 1 (drop 1 words)) _ tris (refused_ok (ltb (length words) 4) ShortFace _ tris e) in
-    subst (All IsSourceTriangle) (same_ok _ tris points.2)
+    subst (All IsGridTriangle) (same_ok _ tris points.2)
     (distinct_are_source (fan points.0)
-    (fan_all IsSourcePoint points.0 (corners_of_all IsSourcePoint vertices 1 (drop 1 words) points.0 all points.1)))
+    (fan_all IsGridPoint points.0 (corners_of_all IsGridPoint vertices 1 (drop 1 words) points.0 all points.1)))
 
--- what the lines so far have mesh_so_far is sound
+-- what the lines so far gave is sound
 pub record IsSound (mesh_so_far : MeshSoFar) : Type 0 where
-  pub vertices : All IsSourcePoint mesh_so_far.vertices
-  pub triangles : AreSourceTriangles mesh_so_far.triangles
+  pub vertices : All IsGridPoint mesh_so_far.vertices
+  pub triangles : All IsGridTriangle mesh_so_far.triangles
+  pub triangle_limit : length mesh_so_far.triangles ≤ MAX_TRIANGLES
 
 pub nothing_sound : IsSound nothing
 nothing_sound = record {
-  vertices = All-nil IsSourcePoint;
-  triangles = record { each = All-nil IsSourceTriangle; count = omega arith };
+  vertices = All-nil IsGridPoint;
+  triangles = All-nil IsGridTriangle;
+  triangle_limit = omega arith;
 }
 
-pub with_vertex_sound : (mesh_so_far : MeshSoFar) (p : Pt) → IsSound mesh_so_far → IsSourcePoint p → IsSound (with_vertex mesh_so_far p)
+pub with_vertex_sound : (mesh_so_far : MeshSoFar) (p : Pt) → IsSound mesh_so_far → IsGridPoint p → IsSound (with_vertex mesh_so_far p)
 with_vertex_sound mesh_so_far p sound is_p = record {
-  vertices = All-push IsSourcePoint mesh_so_far.vertices p sound.vertices is_p;
+  vertices = All-push IsGridPoint mesh_so_far.vertices p sound.vertices is_p;
   triangles = sound.triangles;
+  triangle_limit = sound.triangle_limit;
 }
 
-pub with_triangles_sound : (mesh_so_far more : MeshSoFar) (tris : List Tri) → IsSound mesh_so_far → All IsSourceTriangle tris → with_triangles mesh_so_far tris ≡ Ok more → IsSound more
+pub with_triangles_sound : (mesh_so_far more : MeshSoFar) (tris : List Tri) → IsSound mesh_so_far → All IsGridTriangle tris → with_triangles mesh_so_far tris ≡ Ok more → IsSound more
 with_triangles_sound mesh_so_far more tris sound all e =
-    let fits = passed_ok (leb (length mesh_so_far.triangles + length tris) (2 ^ 20)) (Ok _) TooMany more e in
-    let count = leb-true (length mesh_so_far.triangles + length tris) (2 ^ 20) fits.0 in
+    let fits = passed_ok (leb (length mesh_so_far.triangles + length tris) MAX_TRIANGLES) (Ok _) TooMany more e in
+    let count = leb-true (length mesh_so_far.triangles + length tris) MAX_TRIANGLES fits.0 in
     subst IsSound (same_ok _ more fits.1) (record {
       vertices = sound.vertices;
-      triangles = record {
-        each = All-append IsSourceTriangle mesh_so_far.triangles tris sound.triangles.each all;
-        count = omega (arith, length-append mesh_so_far.triangles tris);
-      };
+      triangles = All-append IsGridTriangle mesh_so_far.triangles tris sound.triangles all;
+      triangle_limit = omega (arith, length-append mesh_so_far.triangles tris);
     })
 
--- what a line mesh_so_far, it mesh_so_far
+-- what a line gave, it gave
 said_ok : {A : Type 0} (line : ℕ) (found : Result A ObjWhy) (x : A) → at_line line found ≡ Ok x → found ≡ Ok x
 said_ok line (Ok y) x e = cc
 said_ok line (Err why) x e = absurd (cc)
@@ -219,32 +219,37 @@ read_lines_sound scale mesh_so_far more line (first ∷ rest) sound e =
     let next = both_ok (with_line scale mesh_so_far line (words_of first)) _ more e in
     read_lines_sound scale next.0 more (line + 1) rest (with_line_sound scale mesh_so_far next.0 line (words_of first) sound next.1) next.2
 
-some_triangles_sound : (mesh_so_far : MeshSoFar) (tris : List Tri) → IsSound mesh_so_far → some_triangles mesh_so_far ≡ Ok tris → AreSourceTriangles tris
+-- a count that is not refused as 0
+some_counted : (count : ℕ) (tris all : List Tri) → cond (eqb count 0) (Err Empty) (Ok all) ≡ Ok tris → 1 ≤ count
+some_counted zero tris all e = absurd (cc)
+some_counted (suc n) tris all e = omega arith
+
+some_triangles_sound : (mesh_so_far : MeshSoFar) (tris : List Tri) → IsSound mesh_so_far → some_triangles mesh_so_far ≡ Ok tris → AreGridTriangles tris
 some_triangles_sound mesh_so_far tris sound e =
-    subst AreSourceTriangles (same_ok mesh_so_far.triangles tris (refused_ok (eqb (length mesh_so_far.triangles) 0) Empty _ tris e)) sound.triangles
+    subst AreGridTriangles
+    (same_ok mesh_so_far.triangles tris (refused_ok (eqb (length mesh_so_far.triangles) 0) Empty _ tris e)) (record {
+      some = some_counted (length mesh_so_far.triangles) tris mesh_so_far.triangles e;
+      triangle_limit = sound.triangle_limit;
+      each = sound.triangles;
+    })
 
 -- a text that is read whole
-whole_sound : (scale : ℕ) (lines : List (List ℕ)) (tris : List Tri) → (read_lines scale nothing 1 lines >>= some_triangles) ≡ Ok tris → AreSourceTriangles tris
+whole_sound : (scale : ℕ) (lines : List (List ℕ)) (tris : List Tri) → (read_lines scale nothing 1 lines >>= some_triangles) ≡ Ok tris → AreGridTriangles tris
 whole_sound scale lines tris e =
     let mesh_so_far = both_ok (read_lines scale nothing 1 lines) some_triangles tris e in
     some_triangles_sound mesh_so_far.0 tris (read_lines_sound scale nothing mesh_so_far.0 1 lines nothing_sound mesh_so_far.1) mesh_so_far.2
 
 -- a text that is too long has no triangles
-never_ok : (read : Result MeshSoFar ObjFault) (tris : List Tri) → ◌≡◌ {A = Result (List Tri) ObjFault} (read >>= (λ mesh_so_far. Err TooLong)) (Ok tris) → AreSourceTriangles tris
+never_ok : (read : Result MeshSoFar ObjFault) (tris : List Tri) → ◌≡◌ {A = Result (List Tri) ObjFault} (read >>= (λ mesh_so_far. Err TooLong)) (Ok tris) → AreGridTriangles tris
 never_ok (Ok mesh_so_far) tris e = absurd (cc)
 never_ok (Err fault) tris e = absurd (cc)
 
-by_length : (is_short : Bool) (short long : Result (List Tri) ObjFault) (tris : List Tri) → cond is_short short long ≡ Ok tris → (short ≡ Ok tris → AreSourceTriangles tris) → (long ≡ Ok tris → AreSourceTriangles tris) → AreSourceTriangles tris
+by_length : (is_short : Bool) (short long : Result (List Tri) ObjFault) (tris : List Tri) → cond is_short short long ≡ Ok tris → (short ≡ Ok tris → AreGridTriangles tris) → (long ≡ Ok tris → AreGridTriangles tris) → AreGridTriangles tris
 by_length true short long tris e one two = one e
 by_length false short long tris e one two = two e
 
 -- the triangles of a mesh
-pub mesh_sound : (scale : ℕ) (text : List ℕ) (tris : List Tri) → mesh scale text ≡ Ok tris → AreSourceTriangles tris
+pub mesh_sound : (scale : ℕ) (text : List ℕ) (tris : List Tri) → mesh scale text ≡ Ok tris → AreGridTriangles tris
 unfolding mesh
 mesh_sound scale text tris e =
-    by_length (leb (length text) longest) _ _ tris e (whole_sound scale (lines_of text) tris) (never_ok _ tris)
-
--- what a reading listed, also where the text isn't told
-pub listed_sound : (scale : ℕ) (left : Option (List ℕ)) (tris : List Tri) → Listed scale left tris → AreSourceTriangles tris
-listed_sound scale None tris listed = mesh_sound scale listed.0 tris listed.1
-listed_sound scale (Some text) tris listed = mesh_sound scale text tris listed
+    by_length (leb (length text) MAX_OBJ_BYTES) _ _ tris e (whole_sound scale (lines_of text) tris) (never_ok _ tris)

@@ -73,7 +73,7 @@ started : (d : MeshBuilder) → d.line_state ≡ state.Start → builder_result_
 unfolding line_result_from with_line
 started d begun = rw begun refl
 
--- what was mesh_so_far so far is what the lines before mesh_so_far, where no word came
+-- the mesh so far is that of the lines before, if no word came
 said_begun : (d : MeshBuilder) (mesh_so_far : MeshSoFar) (line : ℕ) → Stands d mesh_so_far line [] → so_far d ≡ mesh_so_far
 unfolding with_line
 said_begun d mesh_so_far line stands = ok_is (so_far d) mesh_so_far (sym (started d (stands.begun refl)) ∙ stands.continues [])
@@ -97,7 +97,7 @@ pub ended_line : (d : MeshBuilder) (mesh_so_far : MeshSoFar) (line : ℕ) (words
     with_line d.scale mesh_so_far line words ≡ builder_result_from d []
 ended_line d mesh_so_far line words stands = sym (stands.continues [] ∙ ap (with_line d.scale mesh_so_far line) (append-nil words))
 
--- the line that ended mesh_so_far what the builder has, and the next one is begun
+-- the line that ended gave what the builder has, and the next one is begun
 pub next_line : (old new : MeshBuilder) (end : Option Pt) (mesh_so_far : MeshSoFar) (line : ℕ) (words : List (List ℕ)) →
     builder_result_from old [] ≡ with_end (so_far old) (Ok end) →
     with_end (so_far old) (Ok end) ≡ Ok (so_far new) → new.line_state ≡ state.Start → new.line ≡ old.line + 1 →

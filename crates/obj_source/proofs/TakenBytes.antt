@@ -5,6 +5,7 @@ use Rattle.std.specs.Result.{MatchResult, OnOk, IfErr}
 use Rattle.std.proofs.lemmas.List.Elements.{All-nil, All-cons}
 use Rattle.std.proofs.lemmas.Grind.{common_steps}
 use Rattle.std.proofs.lemmas.Bool.Decides.{nat_tests}
+use Rattle.geom_core.specs.declared.limits.TheConstants.{MAX_OBJ_BYTES}
 use Rattle.obj_source.specs.declared.mesh_builder.MeshBuilder.{MeshBuilder}
 use Rattle.obj_source.specs.declared.faults.ObjFault.{ObjFault}
 use Rattle.obj_source.specs.declared.faults.ObjFault.TheVariants.{Line, TooMany, TooLong, Empty, Read, Memory}
@@ -13,7 +14,7 @@ use Rattle.obj_source.specs.declared.obj_scanner.ScanState.TheVariants.{First, L
 use Rattle.obj_source.specs.declared.obj_scanner.ObjScanner.{ObjScanner}
 use Rattle.obj_source.specs.Builder.{so_far}
 use Rattle.obj_source.specs.Lines.{is_blank, is_line_feed, words_of}
-use Rattle.obj_source.specs.Mesh.{MeshSoFar, longest, mesh, some_triangles, with_line, ◌>>=◌}
+use Rattle.obj_source.specs.Mesh.{MeshSoFar, mesh, some_triangles, with_line, ◌>>=◌}
 use Rattle.obj_source.specs.Scanner.{parts_words, ends_word, ends_token, kept, StandsOn, StandsAt, LineRead, LineJudged, IsReady, HasTaken, IsFirstFault, OnLineFault, RefusedAtEnd}
 use Rattle.obj_source.proofs.LineSteps.{LineRead-cases, LineRead-blank, LineRead-hash, LineRead-passed, LineRead-span, LineRead-long, WordsRead-nil}
 use Rattle.obj_source.proofs.LineWords.{IsInside, or-left, or-right}
@@ -21,8 +22,7 @@ use Rattle.obj_source.proofs.TextLines.{IsOneLine, LinesRead-span, LinesRead-fee
 
 IsReady-more : (builder : MeshBuilder) (line corners line' corners' : ℕ) → IsReady builder line corners → line ≤ line' → corners ≤ corners' → IsReady builder line' corners'
 IsReady-more builder line corners line' corners' ready lines some = record {
-  low = ready.low;
-  high = ready.high;
+  scale_range = ready.scale_range;
   triangle_limit = ready.triangle_limit;
   line_fits = omega (arith, ready.line_fits);
   corners_fit = omega (arith, ready.corners_fit);
@@ -167,7 +167,7 @@ HasTaken-long old new span first long stands ready word part scale text t none =
     }
 
 -- what the text came to, where its last line has no LF
-pub mesh_at_end : (scanner : ObjScanner) (builder : MeshBuilder) (scale : ℕ) (text : List ℕ) → (t : HasTaken scanner scale text) → length text ≤ longest → LineJudged builder scale t.mesh_so_far t.line (words_of t.begun) → mesh scale text ≡ some_triangles (so_far builder)
+pub mesh_at_end : (scanner : ObjScanner) (builder : MeshBuilder) (scale : ℕ) (text : List ℕ) → (t : HasTaken scanner scale text) → length text ≤ MAX_OBJ_BYTES → LineJudged builder scale t.mesh_so_far t.line (words_of t.begun) → mesh scale text ≡ some_triangles (so_far builder)
 mesh_at_end scanner builder scale text t short judged =
     mesh-last scale text t.mesh_so_far t.line t.begun short t.lines
     ∙ ap (λ r. (r >>= (λ more. Ok more)) >>= some_triangles) judged.judged
@@ -180,7 +180,7 @@ refused_end scale text Empty holds = absurd holds
 refused_end scale text Read holds = holds
 refused_end scale text Memory holds = holds
 
-pub refused_at_end : (scanner : ObjScanner) (scale : ℕ) (text : List ℕ) (fault : ObjFault) → (t : HasTaken scanner scale text) → length text ≤ longest → OnLineFault (λ f. with_line scale t.mesh_so_far t.line (words_of t.begun) ≡ Err f) fault → RefusedAtEnd scale text fault
+pub refused_at_end : (scanner : ObjScanner) (scale : ℕ) (text : List ℕ) (fault : ObjFault) → (t : HasTaken scanner scale text) → length text ≤ MAX_OBJ_BYTES → OnLineFault (λ f. with_line scale t.mesh_so_far t.line (words_of t.begun) ≡ Err f) fault → RefusedAtEnd scale text fault
 refused_at_end scanner scale text fault t short refused =
     refused_end scale text fault (OnLineFault-weaker (λ f. with_line scale t.mesh_so_far t.line (words_of t.begun) ≡ Err f) (λ f. mesh scale text ≡ Err f)
     (λ f judged. mesh-last scale text t.mesh_so_far t.line t.begun short t.lines ∙ ap (λ r. (r >>= (λ more. Ok more)) >>= some_triangles) judged) fault refused)

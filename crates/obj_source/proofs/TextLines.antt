@@ -7,11 +7,12 @@ use Rattle.std.proofs.lemmas.List.Splits.{slice_split_none, slice_split_at, leng
 use Rattle.std.proofs.lemmas.Bool.Decides.{nat_tests}
 use Rattle.std.proofs.lemmas.Bool.{cases_lt}
 use Rattle.std.proofs.Math.Seq.{take-append-add}
+use Rattle.geom_core.specs.declared.limits.TheConstants.{MAX_OBJ_BYTES}
 use Rattle.geom_core.specs.declared.triangles.Tri.{Tri}
 use Rattle.obj_source.specs.declared.faults.ObjFault.{ObjFault}
 use Rattle.obj_source.specs.declared.faults.ObjFault.TheVariants.{TooLong}
 use Rattle.obj_source.specs.Lines.{is_line_feed, lines_of, words_of}
-use Rattle.obj_source.specs.Mesh.{MeshSoFar, nothing, with_line, read_lines, ended_lines, longest, mesh, some_triangles, ◌>>=◌}
+use Rattle.obj_source.specs.Mesh.{MeshSoFar, nothing, with_line, read_lines, ended_lines, mesh, some_triangles, ◌>>=◌}
 use Rattle.obj_source.specs.Scanner.{LinesRead, IsFirstFault}
 
 -- no byte of it ends a line
@@ -79,13 +80,13 @@ IsFirstFault-more scale text more fault first = record {
 }
 
 -- the mesh of a text that is short enough
-mesh-short : (scale : ℕ) (text : List ℕ) → length text ≤ longest → mesh scale text ≡ read_lines scale nothing 1 (lines_of text) >>= some_triangles
+mesh-short : (scale : ℕ) (text : List ℕ) → length text ≤ MAX_OBJ_BYTES → mesh scale text ≡ read_lines scale nothing 1 (lines_of text) >>= some_triangles
 unfolding mesh
-mesh-short scale text short = let e : leb (length text) longest ≡ true = grind (arith, nat_tests) in rw e
+mesh-short scale text short = let e : leb (length text) MAX_OBJ_BYTES ≡ true = grind (arith, nat_tests) in rw e
 
-mesh-long : (scale : ℕ) (text : List ℕ) → longest < length text → mesh scale text ≡ read_lines scale nothing 1 (ended_lines (take longest text)) >>= (λ mesh_so_far. Err TooLong)
+mesh-long : (scale : ℕ) (text : List ℕ) → MAX_OBJ_BYTES < length text → mesh scale text ≡ read_lines scale nothing 1 (ended_lines (take MAX_OBJ_BYTES text)) >>= (λ mesh_so_far. Err TooLong)
 unfolding mesh
-mesh-long scale text long = let e : leb (length text) longest ≡ false = grind (arith, nat_tests) in rw e
+mesh-long scale text long = let e : leb (length text) MAX_OBJ_BYTES ≡ false = grind (arith, nat_tests) in rw e
 
 abbrev too_long_after : Result MeshSoFar ObjFault → Result (List Tri) ObjFault
 too_long_after r = r >>= (λ mesh_so_far. Err TooLong)
@@ -96,31 +97,31 @@ take_over n front rest short =
     ap (λ m. take m (front ++ rest)) e ∙ take-append-add front rest (n - length front)
 
 -- a first fault among the bytes that are looked at
-pub mesh-fault : (scale : ℕ) (text rest : List ℕ) (fault : ObjFault) → length text ≤ longest → IsFirstFault scale text fault → mesh scale (text ++ rest) ≡ Err fault
+pub mesh-fault : (scale : ℕ) (text rest : List ℕ) (fault : ObjFault) → length text ≤ MAX_OBJ_BYTES → IsFirstFault scale text fault → mesh scale (text ++ rest) ≡ Err fault
 mesh-fault scale text rest fault short first =
-    elim (cases_lt longest (length (text ++ rest))) [
+    elim (cases_lt MAX_OBJ_BYTES (length (text ++ rest))) [
       | inl long ↦
           mesh-long scale (text ++ rest) long
-          ∙ ap (λ t. read_lines scale nothing 1 (ended_lines t) >>= (λ mesh_so_far. Err TooLong)) (take_over longest text rest short)
-          ∙ ap too_long_after (first.ended (take (longest - length text) rest))
+          ∙ ap (λ t. read_lines scale nothing 1 (ended_lines t) >>= (λ mesh_so_far. Err TooLong)) (take_over MAX_OBJ_BYTES text rest short)
+          ∙ ap too_long_after (first.ended (take (MAX_OBJ_BYTES - length text) rest))
       | inr short ↦
           mesh-short scale (text ++ rest) short
           ∙ ap (λ r. r >>= some_triangles) (first.all rest)
     ]
 
 -- a text with too many bytes and no fault
-pub mesh-too_long : (scale : ℕ) (text rest : List ℕ) (mesh_so_far : MeshSoFar) (line : ℕ) (begun : List ℕ) → longest < length text → LinesRead scale (take longest text) mesh_so_far line begun → mesh scale (text ++ rest) ≡ Err TooLong
+pub mesh-too_long : (scale : ℕ) (text rest : List ℕ) (mesh_so_far : MeshSoFar) (line : ℕ) (begun : List ℕ) → MAX_OBJ_BYTES < length text → LinesRead scale (take MAX_OBJ_BYTES text) mesh_so_far line begun → mesh scale (text ++ rest) ≡ Err TooLong
 mesh-too_long scale text rest mesh_so_far line begun long so_far =
-    let looked_at = take longest text in
+    let looked_at = take MAX_OBJ_BYTES text in
     mesh-long scale (text ++ rest) (omega (arith, length-append text rest))
     ∙ ap (λ t. read_lines scale nothing 1 (ended_lines t) >>= (λ mesh_so_far. Err TooLong))
-    (take-append-le longest text rest (omega arith) ∙ sym (append-nil looked_at))
+    (take-append-le MAX_OBJ_BYTES text rest (omega arith) ∙ sym (append-nil looked_at))
     ∙ ap too_long_after
     (so_far.ended [] ∙ ap (λ l. read_lines scale mesh_so_far line (ended_lines l)) (append-nil begun)
     ∙ ap (read_lines scale mesh_so_far line) (ended_lines-one begun so_far.one_line))
 
 -- the last line, which no LF ends
-pub mesh-last : (scale : ℕ) (text : List ℕ) (mesh_so_far : MeshSoFar) (line : ℕ) (begun : List ℕ) → length text ≤ longest → LinesRead scale text mesh_so_far line begun → mesh scale text ≡ (with_line scale mesh_so_far line (words_of begun) >>= (λ more. Ok more)) >>= some_triangles
+pub mesh-last : (scale : ℕ) (text : List ℕ) (mesh_so_far : MeshSoFar) (line : ℕ) (begun : List ℕ) → length text ≤ MAX_OBJ_BYTES → LinesRead scale text mesh_so_far line begun → mesh scale text ≡ (with_line scale mesh_so_far line (words_of begun) >>= (λ more. Ok more)) >>= some_triangles
 mesh-last scale text mesh_so_far line begun short so_far =
     mesh-short scale text short
     ∙ ap (λ r. r >>= some_triangles)

@@ -6,15 +6,15 @@ use Rattle.obj_source.specs.declared.line_state.LineState.TheVariants as state
 use Rattle.obj_source.specs.Mesh.{MeshSoFar, with_line}
 use Rattle.obj_source.specs.LineStates.{line_result_from}
 
--- what was mesh_so_far so far
+-- the mesh so far
 abbrev pub so_far : MeshBuilder → MeshSoFar
 so_far d = record { vertices = d.vertices.items; triangles = d.triangles.items }
 
--- what will have been mesh_so_far after the open line with these words behind those that came
+-- the mesh after the open line with these words after those that came
 abbrev pub builder_result_from : MeshBuilder → List (List ℕ) → Result MeshSoFar ObjFault
 builder_result_from d more = line_result_from d.scale (so_far d) d.line d.line_state more
 
--- The builder stands for a line of this number over what those before it mesh_so_far, of which these words came.
+-- The builder stands for a line of this number, of which these words came, over the mesh of the lines before it.
 pub record Stands (d : MeshBuilder) (mesh_so_far : MeshSoFar) (line : ℕ) (words : List (List ℕ)) : Type 0 where
   pub numbered : d.line ≡ line
   pub begun : words ≡ [] → d.line_state ≡ state.Start

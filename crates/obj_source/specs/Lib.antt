@@ -7,4 +7,3 @@ pub mod Readings
 pub mod References
 pub mod Scanner
 pub mod Scans
-pub mod SourceTriangles

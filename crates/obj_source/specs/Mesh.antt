@@ -3,6 +3,8 @@
 use Rattle.std.specs.Prelude.{Bool, false, ◌&&◌, ◌==◌, nat_lt, nat_le, ℕ, ℤ, ◌+◌, ◌-◌, ◌^◌, List, [], ◌∷◌, ◌++◌, length, take, drop, filter, slice_index, Option, Some, None, option_map, slice_get, Result, Ok, Err, if◌then◌else◌}
 use Rattle.std.specs.List.{before_first}
 use Rattle.std.specs.Str.Parse.{digits_value}
+use Rattle.geom_core.specs.declared.limits.TheConstants.{MAX_OBJ_BYTES, MAX_TRIANGLES}
+use Rattle.geom_core.specs.Limits.{has_distinct_corners}
 use Rattle.geom_core.specs.declared.points.Pt.{Pt}
 use Rattle.geom_core.specs.declared.triangles.Tri.{Tri}
 use Rattle.obj_source.specs.declared.faults.ObjFault.{ObjFault}
@@ -13,7 +15,6 @@ use Rattle.obj_source.specs.declared.numbers.NumberWhy.{NumberWhy}
 use Rattle.obj_source.specs.declared.numbers.NumberWhy.TheVariants.{Bad, Range}
 use Rattle.obj_source.specs.Lines.{lines_of, words_of}
 use Rattle.obj_source.specs.Numerals.{coordinate_of, has_minus, is_digits}
-use Rattle.obj_source.specs.SourceTriangles.{has_distinct_corners}
 
 -- the second reading, of what the first one gave; the first fault stays
 infixl 10 ◌>>=◌
@@ -88,7 +89,7 @@ face_of vertices words =
     if nat_lt (length words) 4 then Err ShortFace
     else (corners_of vertices 1 (drop 1 words) >>= (λ points. Ok (filter has_distinct_corners (fan points))))
 
--- what the lines so far have mesh_so_far
+-- what the lines so far gave
 pub record MeshSoFar : Type 0 where
   pub vertices : List Pt
   pub triangles : List Tri
@@ -102,7 +103,7 @@ with_vertex mesh_so_far p = record mesh_so_far { vertices = mesh_so_far.vertices
 -- a text has at most 2^20 triangles
 abbrev pub with_triangles : MeshSoFar → List Tri → Result MeshSoFar ObjFault
 with_triangles mesh_so_far tris =
-    if nat_le (length mesh_so_far.triangles + length tris) (2 ^ 20)
+    if nat_le (length mesh_so_far.triangles + length tris) MAX_TRIANGLES
     then Ok (record mesh_so_far { triangles = mesh_so_far.triangles ++ tris }) else Err TooMany
 
 abbrev pub at_line : {A : Type 0} → ℕ → Result A ObjWhy → Result A ObjFault
@@ -121,7 +122,7 @@ with_line scale mesh_so_far line words =
     else (if begins_with 102 words then (at_line line (face_of mesh_so_far.vertices words) >>= with_triangles mesh_so_far)
     else Ok mesh_so_far)
 
--- the lines in order, the first of which has this number, each over what those before it mesh_so_far
+-- the lines in order, the first of which has this number, each over what those before it gave
 abbrev pub read_lines : ℕ → MeshSoFar → ℕ → List (List ℕ) → Result MeshSoFar ObjFault
 read_lines scale mesh_so_far line [] = Ok mesh_so_far
 read_lines scale mesh_so_far line (first ∷ rest) =
@@ -131,18 +132,14 @@ read_lines scale mesh_so_far line (first ∷ rest) =
 abbrev pub some_triangles : MeshSoFar → Result (List Tri) ObjFault
 some_triangles mesh_so_far = if length mesh_so_far.triangles == 0 then Err Empty else Ok mesh_so_far.triangles
 
--- the most bytes of a text that is read
-abbrev pub longest : ℕ
-longest = 2 ^ 28
-
 -- the lines whose LF stands in the text
 abbrev pub ended_lines : List ℕ → List (List ℕ)
 ended_lines text = take (length (lines_of text) - 1) (lines_of text)
 
 -- The triangles of a text on a grid of `scale` steps to the unit, or its first fault. Of a text with more than
--- 2^28 bytes only the lines that end among the first 2^28 are looked at.
+-- MAX_OBJ_BYTES only the lines that end among the first MAX_OBJ_BYTES are looked at.
 unfoldable pub mesh : ℕ → List ℕ → Result (List Tri) ObjFault
 mesh scale text =
-    if nat_le (length text) longest
+    if nat_le (length text) MAX_OBJ_BYTES
     then (read_lines scale nothing 1 (lines_of text) >>= some_triangles)
-    else (read_lines scale nothing 1 (ended_lines (take longest text)) >>= (λ mesh_so_far. Err TooLong))
+    else (read_lines scale nothing 1 (ended_lines (take MAX_OBJ_BYTES text)) >>= (λ mesh_so_far. Err TooLong))

@@ -1,10 +1,11 @@
 -- Numerals, and the coordinate that each gives: digits with at most one point, and a power of ten; times the
 -- scale, rounded to the nearest whole number, halves up.
-use Rattle.std.specs.Prelude.{Bool, false, ◌&&◌, ◌||◌, ◌==◌, nat_lt, nat_le, int_le, ℕ, suc, ℤ, pos, negsuc, neg_ℤ, ◌+◌, ◌-◌, ◌*◌, ◌^◌, ◌+ℤ◌, ◌-ℤ◌, ◌*ℤ◌, List, [], ◌∷◌, ◌++◌, length, take, drop, Option, Some, None, option_map, Result, Ok, Err, if◌then◌else◌}
+use Rattle.std.specs.Prelude.{Bool, false, ◌&&◌, ◌||◌, ◌==◌, nat_lt, nat_le, ℕ, suc, ℤ, pos, negsuc, neg_ℤ, ◌+◌, ◌-◌, ◌*◌, ◌^◌, ◌+ℤ◌, ◌-ℤ◌, ◌*ℤ◌, List, [], ◌∷◌, ◌++◌, length, take, drop, Option, Some, None, option_map, Result, Ok, Err, if◌then◌else◌}
 use Rattle.std.specs.Char.{is_ascii_digit}
 use Rattle.std.specs.List.{list_all, list_any, before_first, after_first, prefix_len}
 use Rattle.std.specs.Str.Parse.{digits_value}
 use Rattle.geom_core.specs.Floor.{floor_div}
+use Rattle.geom_core.specs.Limits.{is_grid_coordinate}
 use Rattle.obj_source.specs.declared.numbers.NumberWhy.{NumberWhy}
 use Rattle.obj_source.specs.declared.numbers.NumberWhy.TheVariants.{Bad, Range}
 
@@ -101,12 +102,9 @@ times_power n (negsuc k) = nearest n (10 ^ suc k)
 unfoldable pub scaled : ℕ → Numeral → ℤ
 scaled scale n = times_power (signed n.is_negative (digits_value 10 (counted n) * scale)) (power_of n)
 
--- a coordinate is from -1,048,576 to 1,048,576
-abbrev pub is_coordinate : ℤ → Bool
-is_coordinate n = int_le (negsuc 1048575) n && int_le n (pos 1048576)
-
+-- a coordinate is at most MAX_COORDINATE from 0
 abbrev pub in_grid : ℤ → Result ℤ NumberWhy
-in_grid n = if is_coordinate n then Ok n else Err Range
+in_grid n = if is_grid_coordinate n then Ok n else Err Range
 
 abbrev pub coordinate_in : ℕ → Option Numeral → Result ℤ NumberWhy
 coordinate_in scale None = Err Bad

@@ -1,6 +1,8 @@
 -- What the bytes of a text so far came to.
 use Rattle.std.specs.Prelude.{◌≡◌, ◌≤◌, ◌^◌, ◌+◌, Bool, false, ◌||◌, ℕ, List, [], ◌∷◌, ◌++◌, length, Ok, Err}
 use Rattle.std.specs.List.{All, filter}
+use Rattle.geom_core.specs.declared.limits.TheConstants.{MAX_OBJ_BYTES, MAX_TRIANGLES}
+use Rattle.geom_core.specs.Limits.{IsScale}
 use Rattle.obj_source.specs.declared.mesh_builder.MeshBuilder.{MeshBuilder}
 use Rattle.obj_source.specs.declared.faults.ObjFault.{ObjFault}
 use Rattle.obj_source.specs.declared.faults.ObjFault.TheVariants.{Line, TooMany, Empty, Memory}
@@ -10,7 +12,7 @@ use Rattle.obj_source.specs.declared.obj_scanner.ObjScanner.{ObjScanner}
 use Rattle.obj_source.specs.Builder.{so_far, Stands}
 use Rattle.obj_source.specs.LineStates.{corner_count}
 use Rattle.obj_source.specs.Lines.{is_line_feed, is_hash, is_blank, is_word, lines_of, words_of}
-use Rattle.obj_source.specs.Mesh.{MeshSoFar, nothing, with_line, read_lines, ended_lines, longest, mesh}
+use Rattle.obj_source.specs.Mesh.{MeshSoFar, nothing, with_line, read_lines, ended_lines, mesh}
 
 -- a byte that parts words or begins a comment
 abbrev pub parts_words : ℕ → Bool
@@ -25,7 +27,7 @@ abbrev pub ends_token : ScanState → ℕ → Bool
 ends_token Skipping b = is_line_feed b
 ends_token _ b = ends_word b
 
--- The lines that ended in the text have mesh_so_far this, and the next one, of this number, begins with the bytes
+-- The lines that ended in the text gave this mesh, and the next one, of this number, begins with the bytes
 -- `begun`: so whatever follows, it is read as if those bytes stood before it.
 pub record LinesRead (scale : ℕ) (text : List ℕ) (mesh_so_far : MeshSoFar) (line : ℕ) (begun : List ℕ) : Type 0 where
   pub one_line : All (λ b. is_line_feed b ≡ false) begun
@@ -63,9 +65,8 @@ LineRead Skipping builder word scale mesh_so_far line begun =
 
 -- what a builder can go on from: its line's number and the count of the line's corners are at most these
 pub record IsReady (builder : MeshBuilder) (line corners : ℕ) : Type 0 where
-  pub low : 1 ≤ builder.scale
-  pub high : builder.scale ≤ 65536
-  pub triangle_limit : length builder.triangles.items ≤ 2 ^ 20
+  pub scale_range : IsScale builder.scale
+  pub triangle_limit : length builder.triangles.items ≤ MAX_TRIANGLES
   pub line_fits : builder.line ≤ line
   pub corners_fit : corner_count builder.line_state ≤ corners
 
@@ -85,7 +86,7 @@ pub record HasTaken (scanner : ObjScanner) (scale : ℕ) (text : List ℕ) : Typ
 
 -- some text was taken in, and with so many bytes more it is short enough
 abbrev pub HasRoom : ObjScanner → ℕ → Type 0
-HasRoom scanner more = (scale : ℕ) × (text : List ℕ) × HasTaken scanner scale text × (length text + more ≤ longest)
+HasRoom scanner more = (scale : ℕ) × (text : List ℕ) × HasTaken scanner scale text × (length text + more ≤ MAX_OBJ_BYTES)
 
 -- the first fault of every text that begins with this one stands in a line that ended in it
 pub record IsFirstFault (scale : ℕ) (text : List ℕ) (fault : ObjFault) : Type 0 where

@@ -1,4 +1,6 @@
 ghost use Rattle.std.specs.Prelude.{◌≡◌, ◌∷◌, ◌≤◌, ◌^◌, [], ℕ, List, length, true, Some, Ok, Err, OnOk, IfErr};
+ghost use Rattle.geom_core.specs.declared.limits.TheConstants.{MAX_TRIANGLES};
+ghost use Rattle.geom_core.specs.Limits.{IsScale};
 ghost use Rattle.obj_source.specs.Numerals.{coordinate_of};
 ghost use Rattle.obj_source.specs.Mesh.{MeshSoFar, number_at, with_line};
 ghost use Rattle.obj_source.specs.LineStates.{corner_count, line_result_from, face_from, with_end, vertex_from};
@@ -35,13 +37,22 @@ pub(crate) enum Vertex {
     Faulty(ObjWhy),
 }
 
-/// What the words behind an `f` gave.
+/// What the words after an `f` gave.
 #[derive(Clone, Copy, Debug)]
 pub(crate) struct Face {
-    /// How many words came.
+    /// The number of words that came.
     pub(crate) corners: u32,
-    /// What they make, or the fault of the first corner that has one.
-    pub(crate) polygon: Result<FanState, ObjWhy>,
+    /// What they gave.
+    pub(crate) read: CornersRead,
+}
+
+/// What the corners of a face gave.
+#[derive(Clone, Copy, Debug)]
+pub(crate) enum CornersRead {
+    /// Each is a point; this is the polygon that they make.
+    Polygon(FanState),
+    /// A corner has a fault: that of the first such corner. Further words don't matter.
+    Faulty(ObjWhy),
 }
 
 /// A polygon, as far as its corners came.
@@ -85,7 +96,7 @@ impl LineState {
             [b'v'] => LineState::Vertex(Vertex::Nothing),
             [b'f'] => LineState::Face(Face {
                 corners: 0,
-                polygon: Ok(FanState::Nothing),
+                read: CornersRead::Polygon(FanState::Nothing),
             }),
             _ => LineState::Passed,
         }
@@ -96,7 +107,7 @@ impl LineState {
     /// What the line gives where no word follows: a vertex or nothing.
     #[tactic(auto, unfolding(crate::specs::LineStates::line_result_from, crate::specs::Mesh::with_line))]
     pub(crate) fn finish(&self, line: u32) -> Result<Option<Pt>, ObjFault>
-        ensures { (scale : ℕ) (mesh_so_far : MeshSoFar) → length mesh_so_far.triangles ≤ 2 ^ 20 →
+        ensures { (scale : ℕ) (mesh_so_far : MeshSoFar) → length mesh_so_far.triangles ≤ MAX_TRIANGLES →
             line_result_from scale mesh_so_far line self.now [] ≡ with_end mesh_so_far result }
     {
         match self {
@@ -117,10 +128,10 @@ impl Face {
     /// Judges the line where no word follows.
     fn finish(&self, line: u32) -> Result<(), ObjFault>
         ensures line_result { OnOk result ((mesh_so_far : MeshSoFar) →
-            length mesh_so_far.triangles ≤ 2 ^ 20 →
+            length mesh_so_far.triangles ≤ MAX_TRIANGLES →
             face_from mesh_so_far line self.now [] ≡ Ok mesh_so_far) }
         ensures line_fault { IfErr result (λ fault. (mesh_so_far : MeshSoFar) →
-            length mesh_so_far.triangles ≤ 2 ^ 20 →
+            length mesh_so_far.triangles ≤ MAX_TRIANGLES →
             face_from mesh_so_far line self.now [] ≡ Err fault) }
     {
         if self.corners < 3 {
@@ -129,10 +140,11 @@ impl Face {
                 why: ObjWhy::ShortFace,
             });
         }
-        match self.polygon {
-            Ok(FanState::Over) => Err(ObjFault::TooMany),
-            Ok(_) => Ok(()),
-            Err(why) => Err(ObjFault::Line { line, why }),
+        match self.read {
+            CornersRead::Polygon(FanState::Over) => Err(ObjFault::TooMany),
+            CornersRead::Polygon(FanState::Nothing | FanState::Corner(_) | FanState::Fan { .. }) =>
+                Ok(()),
+            CornersRead::Faulty(why) => Err(ObjFault::Line { line, why }),
         }
     }
 }
@@ -176,7 +188,7 @@ impl Vertex {
 
     /// With one word more.
     pub(crate) fn with_word(self, word: &[u8], scale: u32) -> Vertex
-        requires scale_range { (1 ≤ scale) × (scale ≤ 65536) }
+        requires scale_range { IsScale scale }
         ensures { (more : List (List ℕ)) →
             vertex_from scale result more ≡ vertex_from scale self (word.now ∷ more) }
     {

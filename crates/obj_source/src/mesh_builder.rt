@@ -1,26 +1,17 @@
 ghost use Rattle.std.specs.Prelude.{◌≡◌, ◌≢◌, ◌∷◌, ◌++◌, ◌≤◌, ◌<◌, ◌+◌, ◌-◌, ◌^◌, [], ℕ, List, true, false, IfOk, IfErr, OnOk, Ok, Err, filter, length};
+ghost use Rattle.geom_core.specs.Limits.{IsScale, has_distinct_corners};
 ghost use Rattle.obj_source.specs.Mesh.{MeshSoFar, nothing, vertex_named, corner_of, corners_of, with_line};
 ghost use Rattle.obj_source.specs.Builder.{so_far, builder_result_from, Stands};
 ghost use Rattle.obj_source.specs.LineStates.{corner_count, with_end, with_corners, polygon_from, face_from, line_result_from};
 ghost use Rattle.obj_source.specs.declared.line_state.LineState.TheVariants as state;
 ghost use Rattle.obj_source.specs.declared.faults.ObjFault.TheVariants as faults;
-ghost use Rattle.obj_source.specs.SourceTriangles.{has_distinct_corners};
 
 use crate::faults::{ObjFault, ObjWhy};
-use crate::line_state::{Face, FanState, LineState, Vertex};
+use crate::line_state::{CornersRead, Face, FanState, LineState, Vertex};
 use crate::references::{Reference, vertex_number};
+use geom_core::limits::MAX_TRIANGLES;
 use geom_core::{Pt, Tri};
 use std::alloc::{AllocError, Global};
-
-/// The most triangles of a mesh.
-const MAX_TRIANGLES: usize = 1_048_576;
-
-/// Whether no two corners are one point.
-fn has_distinct_corners(tri: &Tri) -> bool
-    ensures { result ≡ has_distinct_corners tri.now }
-{
-    tri.a != tri.b && tri.b != tri.c && tri.c != tri.a
-}
 
 /// Puts the vertex behind the others.
 fn add_vertex(vertices: &mut Vec<Pt>, vertex: Pt) -> Result<(), AllocError>
@@ -31,17 +22,17 @@ fn add_vertex(vertices: &mut Vec<Pt>, vertex: Pt) -> Result<(), AllocError>
 
 /// Keeps the triangle where its corners differ. False where there is no room for it; then nothing changes.
 fn push_triangle(triangles: &mut Vec<Tri>, tri: Tri) -> Result<bool, AllocError>
-    requires { length triangles.old.items ≤ 2 ^ 20 }
+    requires { length triangles.old.items ≤ MAX_TRIANGLES }
     ensures kept { result ≡ Ok true → triangles.new.items
         ≡ triangles.old.items ++ filter has_distinct_corners (tri ∷ []) }
     ensures full { result ≡ Ok false → (triangles.new.items ≡ triangles.old.items)
-        × (length triangles.old.items ≡ 2 ^ 20) × (has_distinct_corners tri ≡ true) }
-    ensures triangle_limit { length triangles.new.items ≤ 2 ^ 20 }
+        × (length triangles.old.items ≡ MAX_TRIANGLES) × (has_distinct_corners tri ≡ true) }
+    ensures triangle_limit { length triangles.new.items ≤ MAX_TRIANGLES }
 {
-    if !has_distinct_corners(&tri) {
+    if !tri.has_distinct_corners() {
         return Ok(true);
     }
-    if triangles.len() == MAX_TRIANGLES {
+    if triangles.len() == MAX_TRIANGLES as usize {
         return Ok(false);
     }
     triangles.push(tri)?;
@@ -54,12 +45,12 @@ fn push_corner(
     polygon: FanState,
     point: Pt,
 ) -> Result<FanState, AllocError>
-    requires { length triangles.old.items ≤ 2 ^ 20 }
+    requires { length triangles.old.items ≤ MAX_TRIANGLES }
     ensures joined { IfOk result (λ joined. (vertices points : List Pt) →
         with_corners (record { vertices = vertices; triangles = triangles.new.items }) joined points
         ≡ with_corners (record { vertices = vertices; triangles = triangles.old.items })
         polygon (point ∷ points)) }
-    ensures triangle_limit { length triangles.new.items ≤ 2 ^ 20 }
+    ensures triangle_limit { length triangles.new.items ≤ MAX_TRIANGLES }
 {
     match polygon {
         FanState::Nothing => Ok(FanState::Corner(point)),
@@ -161,30 +152,30 @@ fn corner_at(vertices: &[Pt], place: u32, word: &[u8]) -> Result<Pt, ObjWhy>
     }
 }
 
-/// The polygon, or the fault of its first faulty corner, with the word of one corner more.
+/// Returns what the corners give with the word of one corner more, and adds the triangle that it makes.
 #[tactic(auto)]
-fn next_polygon(
+fn read_corner(
     vertices: &[Pt],
     triangles: &mut Vec<Tri>,
-    polygon: Result<FanState, ObjWhy>,
+    read: CornersRead,
     place: u32,
     word: &[u8],
-) -> Result<Result<FanState, ObjWhy>, AllocError>
-    requires triangle_limit { length triangles.old.items ≤ 2 ^ 20 }
-    ensures triangle_limit { length triangles.new.items ≤ 2 ^ 20 }
+) -> Result<CornersRead, AllocError>
+    requires triangle_limit { length triangles.old.items ≤ MAX_TRIANGLES }
+    ensures triangle_limit { length triangles.new.items ≤ MAX_TRIANGLES }
     ensures continues { IfOk result (λ next. (line : ℕ) (more : List (List ℕ)) →
         polygon_from (record { vertices = vertices.now; triangles = triangles.new.items })
         line (place + 1) next more
         ≡ polygon_from (record { vertices = vertices.now; triangles = triangles.old.items })
-        line place polygon (word.now ∷ more)) }
+        line place read (word.now ∷ more)) }
 {
-    let polygon = match polygon {
-        Ok(polygon) => polygon,
-        Err(why) => return Ok(Err(why)),
+    let polygon = match read {
+        CornersRead::Polygon(polygon) => polygon,
+        CornersRead::Faulty(_) => return Ok(read),
     };
     match corner_at(vertices, place, word) {
-        Ok(point) => Ok(Ok(push_corner(triangles, polygon, point)?)),
-        Err(why) => Ok(Err(why)),
+        Ok(point) => Ok(CornersRead::Polygon(push_corner(triangles, polygon, point)?)),
+        Err(why) => Ok(CornersRead::Faulty(why)),
     }
 }
 
@@ -192,9 +183,9 @@ impl MeshBuilder {
     /// The face with one corner more.
     #[tactic(auto, unfolding(crate::specs::LineStates::line_result_from))]
     fn with_corner(&mut self, face: Face, word: &[u8]) -> Result<LineState, AllocError>
-        requires triangle_limit { length self.old.triangles.items ≤ 2 ^ 20 }
+        requires triangle_limit { length self.old.triangles.items ≤ MAX_TRIANGLES }
         requires short { face.corners < 2 ^ 32 - 1 }
-        ensures triangle_limit { length self.new.triangles.items ≤ 2 ^ 20 }
+        ensures triangle_limit { length self.new.triangles.items ≤ MAX_TRIANGLES }
         ensures same { self.new ≡ record self.old { triangles = self.new.triangles } }
         ensures corners { IfOk result (λ line_state. corner_count line_state ≤ face.corners + 1) }
         ensures continues { IfOk result (λ line_state. (more : List (List ℕ)) →
@@ -207,20 +198,20 @@ impl MeshBuilder {
             triangles,
             ..
         } = self;
-        let polygon = next_polygon(vertices, triangles, face.polygon, place, word)?;
+        let read = read_corner(vertices, triangles, face.read, place, word)?;
         Ok(LineState::Face(Face {
             corners: place,
-            polygon,
+            read,
         }))
     }
 
-    /// The line_state with one word more, and the triangles with what the word makes.
+    /// The line's state with one word more, and the triangles with what the word makes.
     #[tactic(auto, unfolding(crate::specs::LineStates::line_result_from))]
     fn next_line_state(&mut self, word: &[u8]) -> Result<LineState, AllocError>
-        requires scale_range { (1 ≤ self.old.scale) × (self.old.scale ≤ 65536) }
-        requires triangle_limit { length self.old.triangles.items ≤ 2 ^ 20 }
+        requires scale_range { IsScale self.old.scale }
+        requires triangle_limit { length self.old.triangles.items ≤ MAX_TRIANGLES }
         requires short { corner_count self.old.line_state < 2 ^ 32 - 1 }
-        ensures triangle_limit { length self.new.triangles.items ≤ 2 ^ 20 }
+        ensures triangle_limit { length self.new.triangles.items ≤ MAX_TRIANGLES }
         ensures same { self.new ≡ record self.old { triangles = self.new.triangles } }
         ensures corners { IfOk result
             (λ next. corner_count next ≤ corner_count self.old.line_state + 1) }
@@ -238,11 +229,11 @@ impl MeshBuilder {
 
     /// One word more of the open line.
     pub(crate) fn push_word(&mut self, word: &[u8]) -> Result<(), AllocError>
-        requires scale_range { (1 ≤ self.old.scale) × (self.old.scale ≤ 65536) }
-        requires triangle_limit { length self.old.triangles.items ≤ 2 ^ 20 }
+        requires scale_range { IsScale self.old.scale }
+        requires triangle_limit { length self.old.triangles.items ≤ MAX_TRIANGLES }
         requires short { corner_count self.old.line_state < 2 ^ 32 - 1 }
         ensures same { (self.new.scale ≡ self.old.scale) × (self.new.line ≡ self.old.line) }
-        ensures triangle_limit { length self.new.triangles.items ≤ 2 ^ 20 }
+        ensures triangle_limit { length self.new.triangles.items ≤ MAX_TRIANGLES }
         ensures corners { OnOk result
             (corner_count self.new.line_state ≤ corner_count self.old.line_state + 1) }
         ensures stands { OnOk result ((mesh_so_far : MeshSoFar) (line : ℕ) (words : List (List ℕ)) →
@@ -286,7 +277,7 @@ impl MeshBuilder {
     /// Ends the open line and judges it.
     pub(crate) fn end_line(&mut self) -> Result<(), ObjFault>
         requires fits { self.old.line < 2 ^ 32 - 1 }
-        requires triangle_limit { length self.old.triangles.items ≤ 2 ^ 20 }
+        requires triangle_limit { length self.old.triangles.items ≤ MAX_TRIANGLES }
         ensures scale { self.new.scale ≡ self.old.scale }
         ensures same_triangles { OnOk result (self.new.triangles ≡ self.old.triangles) }
         ensures line { OnOk result (self.new.line ≡ self.old.line + 1) }

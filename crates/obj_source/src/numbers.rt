@@ -1,4 +1,5 @@
 ghost use Rattle.std.specs.Prelude.{◌≡◌, ◌≤◌};
+ghost use Rattle.geom_core.specs.Limits.{IsScale};
 ghost use Rattle.obj_source.specs.Numerals.{coordinate_of};
 
 use crate::decimals::decimal_of;
@@ -20,7 +21,7 @@ pub enum NumberWhy {
 /// 18th significant one. The value is then exact; times the scale, it is rounded to the nearest whole
 /// number, halves up.
 pub fn read_coordinate(word: &[u8], scale: u32) -> Result<i32, NumberWhy>
-    requires scale_range { (1 ≤ scale) × (scale ≤ 65536) }
+    requires scale_range { IsScale scale }
     ensures { result ≡ coordinate_of scale word.now }
 {
     match decimal_of(word) {

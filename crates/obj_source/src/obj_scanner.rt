@@ -1,7 +1,9 @@
 ghost use Rattle.std.specs.Prelude.{◌≡◌, ◌∷◌, ◌++◌, ◌≤◌, ◌+◌, [], ℕ, List, true, false, IfOk, IfErr, OnOk, Ok, Err, length, position, MatchResult};
 ghost use Rattle.std.specs.List.{All};
+ghost use Rattle.geom_core.specs.declared.limits.TheConstants.{MAX_OBJ_BYTES};
+ghost use Rattle.geom_core.specs.Limits.{IsScale};
 ghost use Rattle.obj_source.specs.Lines.{words_of, without_return};
-ghost use Rattle.obj_source.specs.Mesh.{MeshSoFar, longest, mesh, with_line};
+ghost use Rattle.obj_source.specs.Mesh.{MeshSoFar, mesh, with_line};
 ghost use Rattle.obj_source.specs.Scanner.{HasTaken, HasRoom, IsFirstFault, IsReady, LineRead, LineJudged, OnLineFault, RefusedAtEnd, StandsAt, StandsOn, ends_word, ends_token, kept};
 
 use crate::faults::ObjFault;
@@ -43,7 +45,7 @@ fn ends_word(byte: u8) -> bool
 impl ObjScanner {
     /// Before any byte.
     pub(crate) fn of(alloc: Global, scale: u32) -> ObjScanner
-        requires scale_range { (1 ≤ scale) × (scale ≤ 65536) }
+        requires scale_range { IsScale scale }
         ensures taken { HasTaken result scale [] }
         ensures scale { result.builder.scale ≡ scale }
     {
@@ -137,7 +139,7 @@ impl ObjScanner {
 
     /// Ends the open word, if it has a byte.
     fn end_word(&mut self) -> Result<(), AllocError>
-        requires { IsReady self.old.builder (longest + 1) longest }
+        requires { IsReady self.old.builder (MAX_OBJ_BYTES + 1) MAX_OBJ_BYTES }
         ensures mesh_so_far { OnOk result ((scale : ℕ) (mesh_so_far : MeshSoFar) (line : ℕ)
             (words : List (List ℕ)) →
             StandsAt self.old.state self.old.builder scale mesh_so_far line words →
@@ -164,7 +166,7 @@ impl ObjScanner {
 
     /// Ends the open line, and judges it.
     fn end_line(&mut self) -> Result<(), ObjFault>
-        requires { IsReady self.old.builder (longest + 1) longest }
+        requires { IsReady self.old.builder (MAX_OBJ_BYTES + 1) MAX_OBJ_BYTES }
         ensures judged { (scale : ℕ) (mesh_so_far : MeshSoFar) (line : ℕ) (begun : List ℕ) →
             LineRead self.old.state self.old.builder self.old.word.items
             scale mesh_so_far line begun →
@@ -198,10 +200,10 @@ impl ObjScanner {
     pub(crate) fn end(mut self) -> Result<Vec<Tri>, ObjFault>
         requires { HasRoom self 0 }
         ensures listed { IfOk result (λ tris. (scale : ℕ) (text : List ℕ) →
-            HasTaken self scale text → length text ≤ longest →
+            HasTaken self scale text → length text ≤ MAX_OBJ_BYTES →
             mesh scale text ≡ Ok tris.items) }
         ensures refused { IfErr result (λ fault. (scale : ℕ) (text : List ℕ) →
-            HasTaken self scale text → length text ≤ longest → RefusedAtEnd scale text fault) }
+            HasTaken self scale text → length text ≤ MAX_OBJ_BYTES → RefusedAtEnd scale text fault) }
     {
         self.end_line()?;
         let ObjScanner { builder, .. } = self;
@@ -215,12 +217,12 @@ impl ObjScanner {
 }
 
 impl Consumer for ObjScanner {
-    ghost use Rattle.obj_source.specs.Mesh.{longest};
+    ghost use Rattle.geom_core.specs.declared.limits.TheConstants.{MAX_OBJ_BYTES};
     ghost use Rattle.obj_source.specs.Scanner.{HasTaken, IsFirstFault, OnLineFault};
 
     type Outcome = ObjFault;
 
-    ghost byte_limit = { longest };
+    ghost byte_limit = { MAX_OBJ_BYTES };
 
     ghost has_fed = { λ start now bytes. HasTaken now start.builder.scale bytes };
 

@@ -1,7 +1,7 @@
 ghost use Rattle.std.specs.Prelude.{◌≡◌, ◌≤◌, IfOk, IfErr, OnOk};
+ghost use Rattle.geom_core.specs.Limits.{AreGridTriangles, IsScale};
 ghost use Rattle.span_io.specs.Reads.{ReadToEnd};
 ghost use Rattle.obj_source.specs.Readings.{Listed, Refused};
-ghost use Rattle.obj_source.specs.SourceTriangles.{AreSourceTriangles};
 
 use crate::faults::ObjFault;
 use crate::obj_scanner::ObjScanner;
@@ -23,10 +23,10 @@ use std::alloc::Global;
 /// only where the source's count of faults rose. Memory is taken for the vertices, the triangles and the
 /// longest word of a `v` or `f` line.
 pub fn read_obj<S: Source>(alloc: Global, src: &mut S, scale: u32) -> Result<Vec<Tri>, ObjFault>
-    requires scale_range { (1 ≤ scale) × (scale ≤ 65536) }
+    requires scale_range { IsScale scale }
 
     ensures listed { IfOk result (λ tris. Listed scale (S.left src.old) tris.items) }
-    ensures sound { IfOk result (λ tris. AreSourceTriangles tris.items) }
+    ensures sound { IfOk result (λ tris. AreGridTriangles tris.items) }
     ensures ended { OnOk result (ReadToEnd (S.left src.old) (S.left src.new)) }
     ensures no_fault { OnOk result (S.faults src.new ≡ S.faults src.old) }
 

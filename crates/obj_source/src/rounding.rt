@@ -1,12 +1,11 @@
 ghost use Rattle.std.specs.Prelude.{◌≡◌, ◌*◌, ◌<◌, ◌≤◌, ◌^◌, pos, ◌*ℤ◌};
+ghost use Rattle.geom_core.specs.Limits.{IsScale};
 ghost use Rattle.obj_source.specs.Numerals.{signed, nearest, times_power, in_grid};
 ghost use Rattle.obj_source.specs.Scans.{coordinate_from};
 
 use crate::decimals::Decimal;
 use crate::numbers::NumberWhy;
-
-/// The greatest coordinate, and the least one below 0.
-const MAX_COORDINATE: u128 = 1_048_576;
+use geom_core::limits::MAX_COORDINATE;
 
 /// So many digits behind the point make 0 of any numeral, whatever its exponent.
 const MAX_DECIMAL_PLACES: usize = 20_000;
@@ -64,7 +63,7 @@ fn wide_power_of_ten(exponent: u32) -> u128
 fn in_grid(is_negative: bool, size: u128) -> Result<i32, NumberWhy>
     ensures { result ≡ in_grid (signed is_negative size) }
 {
-    if size > MAX_COORDINATE {
+    if size > u128::from(MAX_COORDINATE) {
         return Err(NumberWhy::Range);
     }
     let size = size as i32;
@@ -136,7 +135,7 @@ fn scale_by_power(is_negative: bool, steps: u128, power: i32) -> Result<i32, Num
 
 /// The coordinate of a number on a grid of `scale` steps to the unit.
 pub(crate) fn coordinate_from(decimal: Decimal, scale: u32) -> Result<i32, NumberWhy>
-    requires scale_range { (1 ≤ scale) × (scale ≤ 65536) }
+    requires scale_range { IsScale scale }
     ensures { result ≡ coordinate_from scale decimal.is_negative decimal.digits decimal.behind
         decimal.exponent }
 {
