@@ -1,5 +1,6 @@
 pub mod CornerLaws
 pub mod EdgeLaws
+pub mod Examples
 pub mod IncidenceLaws
 pub mod ListLaws
 pub mod RimLaws

@@ -12,16 +12,17 @@ ghost use Rattle.std.specs.Int.{w32, int_wrap};
 
 use crate::edges::Edge;
 use crate::terms::{EdgeTerm, list_terms, push_sums, sort_and_add_up};
+use geom_core::limits::TRIANGLES_PER_CLUSTER;
 use geom_core::{Memory, Pt, Tri};
 use std::alloc::Global;
 use std::marker::Model;
 
-/// The most triangles whose edges are added up at a time, before the edges that cancel go: as many as a
-/// cluster has, whose terms stay in the processor's cache. Neighbours in a list mostly share edges.
-const PIECE: usize = 128;
+/// The most triangles whose edges are added up at first, in a list of more: as many as a cluster has. Their terms
+/// stay in the processor's cache, and the edges that cancel among them aren't sorted again.
+const PIECE: usize = TRIANGLES_PER_CLUSTER as usize;
 
-/// The rim of a list of triangles, that is its boundary edges: those whose sum isn't 0, ascending, each with its sum. A
-/// contract sees the edges and the sums.
+/// The rim of a list of triangles, its boundary edges: those whose sum isn't 0, ascending, each with its sum. A
+/// contract sees the edges and the sums (`EdgeSums`), and says `IsRimOf tris rim.edges rim.sums` of a list.
 #[derive(Drop)]
 pub struct Rim {
     edges: Vec<Edge>,

@@ -1,4 +1,4 @@
-use crate::{Edge, EdgeTable};
+use crate::{Edge, EdgeTable, Rim};
 use geom_core::{Pt, Tri};
 use std::test::Fail;
 
@@ -91,5 +91,27 @@ fn memory_may_run_out(rt: HostRuntime) -> Result<(), Fail> {
         assert_eq!(rt; table.rim().len(), 4);
         assert_eq!(rt; table.around(C), [0, 1].as_slice());
     }
+    Ok(())
+}
+
+#[test]
+fn a_square_has_the_rim_of_its_sides(rt: HostRuntime) -> Result<(), Fail> {
+    let tris = [
+        tri(A, B, MIDDLE),
+        tri(B, C, MIDDLE),
+        tri(C, D, MIDDLE),
+        tri(D, A, MIDDLE),
+    ];
+    let rim = Rim::of(rt.alloc(), &tris).map_err(|_| "memory")?;
+    let sides = [
+        Edge { u: A, v: D },
+        Edge { u: A, v: B },
+        Edge { u: D, v: C },
+        Edge { u: B, v: C },
+    ];
+    assert_eq!(rt; rim.edges(), sides.as_slice());
+    assert_eq!(rt; rim.sums(), [-1, 1, -1, 1].as_slice());
+    let points = rim.points(rt.alloc()).map_err(|_| "memory")?;
+    assert_eq!(rt; points.as_slice(), [A, D, B, C].as_slice());
     Ok(())
 }
