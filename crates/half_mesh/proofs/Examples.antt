@@ -5,7 +5,8 @@ use Rattle.geom_core.specs.declared.points.Pt.{Pt}
 use Rattle.geom_core.specs.declared.triangles.Tri.{Tri}
 use Rattle.geom_core.specs.EdgeSum.{same_point, edges_of, edge_count, edge_sum, is_rim_edge}
 use Rattle.half_mesh.specs.declared.edges.Edge.{Edge}
-use Rattle.half_mesh.specs.Around.{has_corner, triangles_around}
+use Rattle.geom_core.specs.Corners.{has_corner}
+use Rattle.half_mesh.specs.Around.{triangles_around}
 use Rattle.half_mesh.specs.Corners.{corners_at}
 use Rattle.half_mesh.specs.Incidences.{at_point}
 use Rattle.half_mesh.specs.Order.{edge_cmp}
@@ -182,22 +183,6 @@ unfolding terms_in
 terms_in_two_parts = refl
 
 -- ---- corners
-
-pub corner_first : has_corner A (tri A B C) ≡ true
-unfolding has_corner same_point
-corner_first = refl
-
-pub corner_second : has_corner B (tri A B C) ≡ true
-unfolding has_corner same_point
-corner_second = refl
-
-pub corner_third : has_corner C (tri A B C) ≡ true
-unfolding has_corner same_point
-corner_third = refl
-
-pub corner_none : has_corner D (tri A B C) ≡ false
-unfolding has_corner same_point
-corner_none = refl
 
 pub around_the_corner : triangles_around square A ≡ 0 ∷ 3 ∷ []
 unfolding has_corner same_point
