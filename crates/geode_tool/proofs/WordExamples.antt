@@ -2,7 +2,7 @@
 use Rattle.std.specs.Prelude.{◌≡◌, ℕ, ◌∷◌, [], List, Some, None, pos, negsuc, codes, refl}
 use Rattle.geom_core.specs.Camera.{View}
 use Rattle.geode_tool.specs.declared.commands.DrawRequest.{DrawRequest}
-use Rattle.geode_tool.specs.CameraNumbers.{first_bad, view_of_numbers}
+use Rattle.view_camera.specs.CameraNumbers.{first_bad, view_of_numbers}
 use Rattle.geode_tool.specs.Words.{whole_number, signed_number, side, camera, draw_words}
 
 abbrev draw : List ℕ

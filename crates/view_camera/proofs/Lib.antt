@@ -1,0 +1,8 @@
+mod Bounds
+mod CameraRanges
+mod DotFromEye
+mod MadeCameras
+mod OffScreen
+mod OnScreen
+mod Ranges
+mod Spots
