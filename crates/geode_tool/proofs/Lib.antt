@@ -5,7 +5,6 @@ pub mod CommandWords
 pub mod DrawAnswers
 pub mod DrawWords
 pub mod DrawnItems
-pub mod Greatest
 pub mod NumberParts
 pub mod Numerals
 pub mod TakenTexts

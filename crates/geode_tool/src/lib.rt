@@ -8,7 +8,6 @@
 mod audit_command;
 #[cfg(test)]
 mod audit_tests;
-mod canvases;
 mod commands;
 mod draw_command;
 mod draw_mesh;

@@ -1,7 +1,7 @@
 use Rattle.std.proofs.Common.{◌≡◌, ◌*◌, ◌∙◌, ap, ℕ, List, get_or, replicate, length}
 use Rattle.std.proofs.lemmas.List.{get_or-replicate, length-replicate}
-use Rattle.geode_tool.proofs.Greatest.{picture_of_nothing}
-use Rattle.geode_tool.proofs.canvases.Canvas.of.Goals as goal
+use Rattle.visibility_buffer.proofs.Greatest.{picture_of_nothing}
+use Rattle.visibility_buffer.proofs.buffers.VisibilityBuffer.new.Goals as goal
 
 pub returns-clause-empty : goal.returns-clause-empty
 returns-clause-empty c =
