@@ -8,6 +8,4 @@ pub mod DrawnItems
 pub mod NumberParts
 pub mod Numerals
 pub mod TakenTexts
-pub mod TextExamples
-pub mod TextRows
 pub mod WordExamples

@@ -3,7 +3,6 @@ pub mod Commands
 pub mod Draw
 pub mod Faults
 pub mod Outputs
-pub mod PictureText
 pub mod Statuses
 pub mod Texts
 pub mod Words

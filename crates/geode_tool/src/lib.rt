@@ -12,7 +12,6 @@ mod commands;
 mod draw_command;
 mod draw_mesh;
 mod faults;
-mod picture_texts;
 mod read_input;
 #[cfg(test)]
 mod tests;

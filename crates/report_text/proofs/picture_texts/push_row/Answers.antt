@@ -1,8 +1,8 @@
 use Rattle.std.proofs.Common.{sym, ap, ◌++◌, List, ℕ, ◌∙◌}
 use Rattle.std.proofs.lemmas.List.{append-nil}
-use Rattle.geode_tool.proofs.TextRows.{row_text-none, word_put_first, word_put_later}
-use Rattle.geode_tool.proofs.picture_texts.push_row.Goals as goal
-use Rattle.geode_tool.proofs.picture_texts.push_row.Goals.{then-column-gt0+in_ok-push, else-column-gt0}
+use Rattle.report_text.proofs.TextRows.{row_text-none, word_put_first, word_put_later}
+use Rattle.report_text.proofs.picture_texts.push_row.Goals as goal
+use Rattle.report_text.proofs.picture_texts.push_row.Goals.{then-column-gt0+in_ok-push, else-column-gt0}
 
 pub loop-column-init : goal.loop-column-init
 loop-column-init c =

@@ -4,7 +4,7 @@ use Rattle.std.specs.Prelude.{flat_map}
 use Rattle.std.specs.List.{join_with_byte, range_with_len}
 use Rattle.std.proofs.lemmas.List.{append-nil, length-map, length-take, map_more, map-id, flat_map_more}
 use Rattle.std.proofs.lemmas.List.FromFn.{map-range_with_len_more}
-use Rattle.geode_tool.specs.PictureText.{word_text, row_text, row_of, picture_text_of}
+use Rattle.report_text.specs.PictureText.{word_text, row_text, row_of, picture_text_of}
 
 -- the text of the rows above row n
 abbrev pub rows_above : List ℕ → ℕ → ℕ → List ℕ

@@ -1,6 +1,6 @@
 use Rattle.std.proofs.Common.{◌≡◌, ◌/◌, length, ap, ◌∙◌, arith}
-use Rattle.geode_tool.proofs.TextRows.{rows_above, row_put, picture_text_of-rows}
-use Rattle.geode_tool.proofs.picture_texts.picture_text.Goals as goal
+use Rattle.report_text.proofs.TextRows.{rows_above, row_put, picture_text_of-rows}
+use Rattle.report_text.proofs.picture_texts.picture_text.Goals as goal
 
 pub loop-row-preserved : goal.loop-row-preserved
 loop-row-preserved c =

@@ -1,6 +1,6 @@
 use Rattle.std.proofs.Common.{◌≡◌}
-use Rattle.geode_tool.proofs.TextRows.{rows_above}
-use Rattle.geode_tool.proofs.picture_texts.picture_text.Given as goal
+use Rattle.report_text.proofs.TextRows.{rows_above}
+use Rattle.report_text.proofs.picture_texts.picture_text.Given as goal
 
 -- the rows so far have been written
 abbrev pub invariant-loop-row : goal.invariant-loop-row

@@ -1,6 +1,6 @@
 use Rattle.std.proofs.Common.{◌≡◌, ◌++◌, take}
-use Rattle.geode_tool.specs.PictureText.{row_text}
-use Rattle.geode_tool.proofs.picture_texts.push_row.Given as goal
+use Rattle.report_text.specs.PictureText.{row_text}
+use Rattle.report_text.proofs.picture_texts.push_row.Given as goal
 
 -- the words so far have been written
 abbrev pub invariant-loop-column : goal.invariant-loop-column
