@@ -6,10 +6,10 @@ use Rattle.geom_core.specs.declared.triangles.Tri.{Tri}
 use Rattle.span_io.specs.Reads.{GotBytes, GotEnd}
 use Rattle.obj_source.specs.declared.faults.ObjFault.{ObjFault}
 use Rattle.obj_source.specs.declared.faults.ObjFault.TheVariants.{Line, TooMany, TooLong, Empty, Read, Memory}
-use Rattle.obj_source.specs.declared.tokens.Tokens.{Tokens}
+use Rattle.obj_source.specs.declared.obj_scanner.ObjScanner.{ObjScanner}
 use Rattle.obj_source.specs.Mesh.{longest, mesh}
 use Rattle.obj_source.specs.Readings.{Answers, Listed, ReadToEnd, Refused}
-use Rattle.obj_source.specs.Tokens.{HasTaken, HasRoom, IsFirstFault, OnLineFault, RefusedAtEnd}
+use Rattle.obj_source.specs.Scanner.{HasTaken, HasRoom, IsFirstFault, OnLineFault, RefusedAtEnd}
 use Rattle.obj_source.proofs.TextLines.{take_over, mesh-fault, mesh-too_long}
 
 -- these bytes stood before those that are left now
@@ -17,16 +17,16 @@ abbrev pub TakenFrom : Option (List ℕ) → Option (List ℕ) → List ℕ → 
 TakenFrom left new_left bytes = left ≡ option_map (λ rest. bytes ++ rest) new_left
 
 -- so many bytes were read, and those among the first 2^28 taken in
-abbrev pub ReadSoFar : Option (List ℕ) → Option (List ℕ) → Tokens → ℕ → ℕ → Type 0
-ReadSoFar left new_left tokens scale count =
-    (text : List ℕ) × TakenFrom left new_left text × (length text ≡ count) × HasTaken tokens scale (take longest text)
+abbrev pub ReadSoFar : Option (List ℕ) → Option (List ℕ) → ObjScanner → ℕ → ℕ → Type 0
+ReadSoFar left new_left scanner scale count =
+    (text : List ℕ) × TakenFrom left new_left text × (length text ≡ count) × HasTaken scanner scale (take longest text)
 
 taken_none : (left : Option (List ℕ)) → TakenFrom left left []
 taken_none None = refl
 taken_none (Some bytes) = refl
 
-pub ReadSoFar-none : (left : Option (List ℕ)) (tokens : Tokens) (scale : ℕ) → HasTaken tokens scale [] → ReadSoFar left left tokens scale 0
-ReadSoFar-none left tokens scale t = ([], taken_none left, refl, t)
+pub ReadSoFar-none : (left : Option (List ℕ)) (scanner : ObjScanner) (scale : ℕ) → HasTaken scanner scale [] → ReadSoFar left left scanner scale 0
+ReadSoFar-none left scanner scale t = ([], taken_none left, refl, t)
 
 -- a read gave bytes
 taken_bytes : (left before after : Option (List ℕ)) (text buffer : List ℕ) (n : ℕ) → GotBytes before after buffer n → TakenFrom left before text → TakenFrom left after (text ++ take n buffer)
@@ -54,16 +54,16 @@ take_piece most count text buffer n is_count short =
     take_over most text (take n buffer) (omega arith)
     ∙ ap (λ l. text ++ l) (take_less (most - length text) n buffer ∙ ap (λ c. take (min n (most - c)) buffer) is_count)
 
--- what a piece gives to the tokens
-abbrev pub TakesPiece : Tokens → Tokens → List ℕ → Type 0
+-- what a piece gives to the scanner
+abbrev pub TakesPiece : ObjScanner → ObjScanner → List ℕ → Type 0
 TakesPiece old new piece = (scale : ℕ) (text : List ℕ) → HasTaken old scale text → HasTaken new scale (text ++ piece)
 
-all_taken : (tokens : Tokens) (scale count : ℕ) (text : List ℕ) → length text ≡ count → count ≤ longest → HasTaken tokens scale (take longest text) → HasTaken tokens scale text
-all_taken tokens scale count text is_count short t =
-    subst (λ l. HasTaken tokens scale l) (take_all longest text (omega arith)) t
+all_taken : (scanner : ObjScanner) (scale count : ℕ) (text : List ℕ) → length text ≡ count → count ≤ longest → HasTaken scanner scale (take longest text) → HasTaken scanner scale text
+all_taken scanner scale count text is_count short t =
+    subst (λ l. HasTaken scanner scale l) (take_all longest text (omega arith)) t
 
 -- a piece more
-pub ReadSoFar-more : (left before after : Option (List ℕ)) (old new : Tokens) (scale count n : ℕ) (buffer : List ℕ) → GotBytes before after buffer n → count ≤ longest → TakesPiece old new (take (min n (longest - count)) buffer) → ReadSoFar left before old scale count → ReadSoFar left after new scale (count + n)
+pub ReadSoFar-more : (left before after : Option (List ℕ)) (old new : ObjScanner) (scale count n : ℕ) (buffer : List ℕ) → GotBytes before after buffer n → count ≤ longest → TakesPiece old new (take (min n (longest - count)) buffer) → ReadSoFar left before old scale count → ReadSoFar left after new scale (count + n)
 ReadSoFar-more left before after old new scale count n buffer got short takes so_far =
     let text = so_far.0 in (
       text ++ take n buffer,
@@ -73,11 +73,11 @@ ReadSoFar-more left before after old new scale count n buffer got short takes so
           (takes scale text (all_taken old scale count text so_far.2 short so_far.3)),
     )
 
-pub HasRoom-piece : (left before : Option (List ℕ)) (tokens : Tokens) (scale count n : ℕ) (buffer : List ℕ) → count ≤ longest → ReadSoFar left before tokens scale count → HasRoom tokens (length (take (min n (longest - count)) buffer))
-HasRoom-piece left before tokens scale count n buffer short so_far = (
+pub HasRoom-piece : (left before : Option (List ℕ)) (scanner : ObjScanner) (scale count n : ℕ) (buffer : List ℕ) → count ≤ longest → ReadSoFar left before scanner scale count → HasRoom scanner (length (take (min n (longest - count)) buffer))
+HasRoom-piece left before scanner scale count n buffer short so_far = (
   scale,
   so_far.0,
-  all_taken tokens scale count so_far.0 so_far.2 short so_far.3,
+  all_taken scanner scale count so_far.0 so_far.2 short so_far.3,
   omega (arith, length-take (min n (longest - count)) buffer, so_far.2),
 )
 
@@ -102,8 +102,8 @@ refused_line scale left after faults new_faults text seen more Read taken parted
 refused_line scale left after faults new_faults text seen more Memory taken parted short first = tt
 
 -- a faulty line in a piece
-pub refused_piece : (left before after : Option (List ℕ)) (faults new_faults : ℕ) (tokens : Tokens) (scale count n : ℕ) (buffer : List ℕ) (fault : ObjFault) → GotBytes before after buffer n → count ≤ longest → ((scale : ℕ) (text : List ℕ) → HasTaken tokens scale text → OnLineFault (IsFirstFault scale (text ++ take (min n (longest - count)) buffer)) fault) → ReadSoFar left before tokens scale count → Refused scale left after faults new_faults fault
-refused_piece left before after faults new_faults tokens scale count n buffer fault got short refused so_far =
+pub refused_piece : (left before after : Option (List ℕ)) (faults new_faults : ℕ) (scanner : ObjScanner) (scale count n : ℕ) (buffer : List ℕ) (fault : ObjFault) → GotBytes before after buffer n → count ≤ longest → ((scale : ℕ) (text : List ℕ) → HasTaken scanner scale text → OnLineFault (IsFirstFault scale (text ++ take (min n (longest - count)) buffer)) fault) → ReadSoFar left before scanner scale count → Refused scale left after faults new_faults fault
+refused_piece left before after faults new_faults scanner scale count n buffer fault got short refused so_far =
     let text = so_far.0 in
     let seen = take (min n (longest - count)) buffer in
     let parted : text ++ take n buffer ≡ (text ++ seen) ++ drop (longest - count) (take n buffer) =
@@ -112,14 +112,14 @@ refused_piece left before after faults new_faults tokens scale count n buffer fa
     refused_line scale left after faults new_faults (text ++ take n buffer) (text ++ seen) (drop (longest - count) (take n buffer)) fault
     (taken_bytes left before after text buffer n got so_far.1) parted
     (omega (arith, length-append text seen, length-take (min n (longest - count)) buffer, so_far.2))
-    (refused scale text (all_taken tokens scale count text so_far.2 short so_far.3))
+    (refused scale text (all_taken scanner scale count text so_far.2 short so_far.3))
 
 -- more bytes than a text has that is read
-pub refused_long : (left after : Option (List ℕ)) (faults new_faults : ℕ) (tokens : Tokens) (scale count : ℕ) → count ≡ longest + 1 → ReadSoFar left after tokens scale count → Refused scale left after faults new_faults TooLong
-refused_long left after faults new_faults tokens scale count long so_far =
+pub refused_long : (left after : Option (List ℕ)) (faults new_faults : ℕ) (scanner : ObjScanner) (scale count : ℕ) → count ≡ longest + 1 → ReadSoFar left after scanner scale count → Refused scale left after faults new_faults TooLong
+refused_long left after faults new_faults scanner scale count long so_far =
     let t = so_far.3 in (
       answers_from scale left after so_far.0 (Err TooLong) so_far.1
-          (λ rest. mesh-too_long scale so_far.0 rest t.said t.line t.begun (omega (arith, so_far.2)) t.lines),
+          (λ rest. mesh-too_long scale so_far.0 rest t.mesh_so_far t.line t.begun (omega (arith, so_far.2)) t.lines),
       dropped left after so_far.0 so_far.1 (so_far.2 ∙ long),
     )
   where
@@ -137,13 +137,13 @@ answers_at_end scale left None after text answer got taken says = rw taken (text
 answers_at_end scale left (Some rest) after text answer got taken says =
     rw taken (ap (λ l. mesh scale (text ++ l)) got.none_left ∙ ap (mesh scale) (append-nil text) ∙ says)
 
-pub read_to_end : (left before after : Option (List ℕ)) (tokens : Tokens) (scale count : ℕ) → GotEnd before after → ReadSoFar left before tokens scale count → ReadToEnd left after
-read_to_end left before after tokens scale count got so_far = ends_there left before after so_far.0 got so_far.1
+pub read_to_end : (left before after : Option (List ℕ)) (scanner : ObjScanner) (scale count : ℕ) → GotEnd before after → ReadSoFar left before scanner scale count → ReadToEnd left after
+read_to_end left before after scanner scale count got so_far = ends_there left before after so_far.0 got so_far.1
 
-pub listed_at_end : (left before after : Option (List ℕ)) (tokens : Tokens) (scale count : ℕ) (tris : List Tri) → GotEnd before after → count ≤ longest → ReadSoFar left before tokens scale count → ((scale : ℕ) (text : List ℕ) → HasTaken tokens scale text → length text ≤ longest → mesh scale text ≡ Ok tris) → Listed scale left tris
-listed_at_end left before after tokens scale count tris got short so_far says =
+pub listed_at_end : (left before after : Option (List ℕ)) (scanner : ObjScanner) (scale count : ℕ) (tris : List Tri) → GotEnd before after → count ≤ longest → ReadSoFar left before scanner scale count → ((scale : ℕ) (text : List ℕ) → HasTaken scanner scale text → length text ≤ longest → mesh scale text ≡ Ok tris) → Listed scale left tris
+listed_at_end left before after scanner scale count tris got short so_far says =
     answers_at_end scale left before after so_far.0 (Ok tris) got so_far.1
-    (says scale so_far.0 (all_taken tokens scale count so_far.0 so_far.2 short so_far.3) (omega (arith, so_far.2)))
+    (says scale so_far.0 (all_taken scanner scale count so_far.0 so_far.2 short so_far.3) (omega (arith, so_far.2)))
 
 refused_end : (scale : ℕ) (left before after : Option (List ℕ)) (faults new_faults : ℕ) (text : List ℕ) (fault : ObjFault) → GotEnd before after → TakenFrom left before text → RefusedAtEnd scale text fault → Refused scale left after faults new_faults fault
 refused_end scale left before after faults new_faults text (Line line why) got taken says = answers_at_end scale left before after text _ got taken says
@@ -154,12 +154,12 @@ refused_end scale left before after faults new_faults text Empty got taken says 
 refused_end scale left before after faults new_faults text Read got taken says = absurd says
 refused_end scale left before after faults new_faults text Memory got taken says = tt
 
-pub refused_at_end : (left before after : Option (List ℕ)) (faults new_faults : ℕ) (tokens : Tokens) (scale count : ℕ) (fault : ObjFault) → GotEnd before after → count ≤ longest → ReadSoFar left before tokens scale count → ((scale : ℕ) (text : List ℕ) → HasTaken tokens scale text → length text ≤ longest → RefusedAtEnd scale text fault) → Refused scale left after faults new_faults fault
-refused_at_end left before after faults new_faults tokens scale count fault got short so_far says =
+pub refused_at_end : (left before after : Option (List ℕ)) (faults new_faults : ℕ) (scanner : ObjScanner) (scale count : ℕ) (fault : ObjFault) → GotEnd before after → count ≤ longest → ReadSoFar left before scanner scale count → ((scale : ℕ) (text : List ℕ) → HasTaken scanner scale text → length text ≤ longest → RefusedAtEnd scale text fault) → Refused scale left after faults new_faults fault
+refused_at_end left before after faults new_faults scanner scale count fault got short so_far says =
     refused_end scale left before after faults new_faults so_far.0 fault got so_far.1
-    (says scale so_far.0 (all_taken tokens scale count so_far.0 so_far.2 short so_far.3) (omega (arith, so_far.2)))
+    (says scale so_far.0 (all_taken scanner scale count so_far.0 so_far.2 short so_far.3) (omega (arith, so_far.2)))
 
 -- some text was taken in so far, where its end is looked at
-pub HasRoom-end : (left before : Option (List ℕ)) (tokens : Tokens) (scale count : ℕ) → count ≤ longest → ReadSoFar left before tokens scale count → HasRoom tokens 0
-HasRoom-end left before tokens scale count short so_far =
-    (scale, so_far.0, all_taken tokens scale count so_far.0 so_far.2 short so_far.3, omega (arith, so_far.2))
+pub HasRoom-end : (left before : Option (List ℕ)) (scanner : ObjScanner) (scale count : ℕ) → count ≤ longest → ReadSoFar left before scanner scale count → HasRoom scanner 0
+HasRoom-end left before scanner scale count short so_far =
+    (scale, so_far.0, all_taken scanner scale count so_far.0 so_far.2 short so_far.3, omega (arith, so_far.2))

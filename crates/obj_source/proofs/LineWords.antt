@@ -8,7 +8,7 @@ use Rattle.std.proofs.lemmas.Grind.{common_steps}
 use Rattle.std.proofs.lemmas.Bool.Decides.{nat_tests}
 use Rattle.std.proofs.lemmas.Bool.{eqb-true, eq-eqb}
 use Rattle.obj_source.specs.Lines.{is_hash, is_return, is_blank, without_return, before_comment, is_word, words_of}
-use Rattle.obj_source.specs.Tokens.{parts_words, kept}
+use Rattle.obj_source.specs.Scanner.{parts_words, kept}
 
 abbrev pub IsInside : List ℕ → Type 0
 IsInside word = All (λ b. parts_words b ≡ false) word

@@ -11,33 +11,33 @@ use Rattle.obj_source.specs.declared.faults.ObjFault.{ObjFault}
 use Rattle.obj_source.specs.declared.faults.ObjFault.TheVariants.{Line, TooMany, TooLong}
 use Rattle.obj_source.specs.declared.faults.ObjWhy.{ObjWhy}
 use Rattle.obj_source.specs.Lines.{is_line_feed, lines_of, words_of}
-use Rattle.obj_source.specs.Mesh.{◌>>=◌, Said, nothing, vertex_of, face_of, on_line, begins_with, with_vertex, with_triangles, with_line, read_lines, some_triangles, longest, ended_lines, mesh}
+use Rattle.obj_source.specs.Mesh.{◌>>=◌, MeshSoFar, nothing, vertex_of, face_of, at_line, begins_with, with_vertex, with_triangles, with_line, read_lines, some_triangles, longest, ended_lines, mesh}
 
 -- a reading of two steps behind a first one
-behind_first : (first : Result Said ObjFault) (whole one two : Said → Result Said ObjFault) → ((said : Said) → whole said ≡ (one said >>= two)) → (first >>= whole) ≡ (first >>= one >>= two)
-behind_first (Ok said) whole one two same = same said
+behind_first : (first : Result MeshSoFar ObjFault) (whole one two : MeshSoFar → Result MeshSoFar ObjFault) → ((mesh_so_far : MeshSoFar) → whole mesh_so_far ≡ (one mesh_so_far >>= two)) → (first >>= whole) ≡ (first >>= one >>= two)
+behind_first (Ok mesh_so_far) whole one two same = same mesh_so_far
 behind_first (Err fault) whole one two same = refl
 
 -- the lines of two lists are read one list after the other
-pub read_lines-append : (scale : ℕ) (said : Said) (line : ℕ) (xs ys : List (List ℕ)) → read_lines scale said line (xs ++ ys) ≡ (read_lines scale said line xs >>= (λ more. read_lines scale more (line + length xs) ys))
-read_lines-append scale said line [] ys =
+pub read_lines-append : (scale : ℕ) (mesh_so_far : MeshSoFar) (line : ℕ) (xs ys : List (List ℕ)) → read_lines scale mesh_so_far line (xs ++ ys) ≡ (read_lines scale mesh_so_far line xs >>= (λ more. read_lines scale more (line + length xs) ys))
+read_lines-append scale mesh_so_far line [] ys =
     let same : line ≡ line + 0 = omega arith in
-    ap (λ n. read_lines scale said n ys) same
-read_lines-append scale said line (x ∷ xs) ys =
-    behind_first (with_line scale said line (words_of x)) _ _ _ (λ more.
+    ap (λ n. read_lines scale mesh_so_far n ys) same
+read_lines-append scale mesh_so_far line (x ∷ xs) ys =
+    behind_first (with_line scale mesh_so_far line (words_of x)) _ _ _ (λ more.
     let same : line + 1 + length xs ≡ line + suc (length xs) = omega arith in
     read_lines-append scale more (line + 1) xs ys
     ∙ ap (λ n. read_lines scale more (line + 1) xs >>= (λ then. read_lines scale then n ys)) same)
 
 -- the first fault stays
-pub read_lines-fault : (scale : ℕ) (said : Said) (line : ℕ) (xs ys : List (List ℕ)) (fault : ObjFault) → read_lines scale said line xs ≡ Err fault → read_lines scale said line (xs ++ ys) ≡ Err fault
-read_lines-fault scale said line xs ys fault e =
-    read_lines-append scale said line xs ys ∙ ap (λ (r : Result Said ObjFault). r >>= (λ more. read_lines scale more (line + length xs) ys)) e
+pub read_lines-fault : (scale : ℕ) (mesh_so_far : MeshSoFar) (line : ℕ) (xs ys : List (List ℕ)) (fault : ObjFault) → read_lines scale mesh_so_far line xs ≡ Err fault → read_lines scale mesh_so_far line (xs ++ ys) ≡ Err fault
+read_lines-fault scale mesh_so_far line xs ys fault e =
+    read_lines-append scale mesh_so_far line xs ys ∙ ap (λ (r : Result MeshSoFar ObjFault). r >>= (λ more. read_lines scale more (line + length xs) ys)) e
 
--- where there was none, the reading goes on over what was said
-pub read_lines-on : (scale : ℕ) (said more : Said) (line : ℕ) (xs ys : List (List ℕ)) → read_lines scale said line xs ≡ Ok more → read_lines scale said line (xs ++ ys) ≡ read_lines scale more (line + length xs) ys
-read_lines-on scale said more line xs ys e =
-    read_lines-append scale said line xs ys ∙ ap (λ (r : Result Said ObjFault). r >>= (λ then. read_lines scale then (line + length xs) ys)) e
+-- where there was none, the reading goes on over what was mesh_so_far
+pub read_lines-on : (scale : ℕ) (mesh_so_far more : MeshSoFar) (line : ℕ) (xs ys : List (List ℕ)) → read_lines scale mesh_so_far line xs ≡ Ok more → read_lines scale mesh_so_far line (xs ++ ys) ≡ read_lines scale more (line + length xs) ys
+read_lines-on scale mesh_so_far more line xs ys e =
+    read_lines-append scale mesh_so_far line xs ys ∙ ap (λ (r : Result MeshSoFar ObjFault). r >>= (λ then. read_lines scale then (line + length xs) ys)) e
 
 -- a text has a first line
 record HasFirst (lines : List (List ℕ)) : Type 0 where
@@ -93,7 +93,7 @@ unfolding mesh
 mesh-short scale text short = rw (le-leb (length text) longest short)
 
 -- of a longer one the lines that end among the first 2^28 bytes
-pub mesh-long : (scale : ℕ) (first rest : List ℕ) → length first ≡ longest → 0 < length rest → mesh scale (first ++ rest) ≡ (read_lines scale nothing 1 (ended_lines first) >>= (λ said. Err TooLong))
+pub mesh-long : (scale : ℕ) (first rest : List ℕ) → length first ≡ longest → 0 < length rest → mesh scale (first ++ rest) ≡ (read_lines scale nothing 1 (ended_lines first) >>= (λ mesh_so_far. Err TooLong))
 unfolding mesh
 mesh-long scale first rest long more =
     let past : longest < length (first ++ rest) = omega (arith, length-append first rest) in
@@ -117,8 +117,8 @@ fault_cut scale front rest fault short e =
     ∙ ap (read_lines scale nothing 1) (ended_lines-append front behind)
     ∙ read_lines-fault scale nothing 1 (lines_of front) (ended_lines behind) fault e
 
-fault_stays : (read : Result Said ObjFault) (fault : ObjFault) (next : Said → Result (List Tri) ObjFault) → read ≡ Err fault → (read >>= next) ≡ Err fault
-fault_stays read fault next e = ap (λ (r : Result Said ObjFault). r >>= next) e
+fault_stays : (read : Result MeshSoFar ObjFault) (fault : ObjFault) (next : MeshSoFar → Result (List Tri) ObjFault) → read ≡ Err fault → (read >>= next) ≡ Err fault
+fault_stays read fault next e = ap (λ (r : Result MeshSoFar ObjFault). r >>= next) e
 
 either : {A : Type 0} (b : Bool) (one two x : A) → one ≡ x → two ≡ x → cond b one two ≡ x
 either true one two x e f = e
@@ -129,7 +129,7 @@ pub mesh-fault : (scale : ℕ) (front rest : List ℕ) (fault : ObjFault) → le
 unfolding mesh
 mesh-fault scale front rest fault short e =
     let whole = fault_stays (read_lines scale nothing 1 (lines_of (front ++ 10 ∷ rest))) fault some_triangles (fault_whole scale front rest fault e) in
-    let cut = fault_stays (read_lines scale nothing 1 (ended_lines (take longest (front ++ 10 ∷ rest)))) fault (λ said. Err TooLong) (fault_cut scale front rest fault short e) in
+    let cut = fault_stays (read_lines scale nothing 1 (ended_lines (take longest (front ++ 10 ∷ rest)))) fault (λ mesh_so_far. Err TooLong) (fault_cut scale front rest fault short e) in
     either (leb (length (front ++ 10 ∷ rest)) longest) _ _ (Err fault) whole cut
 
 -- the fault of a line of this number
@@ -141,36 +141,36 @@ one_fault : {A B F : Type 0} (P : F → Type 0) (found : Result A F) (next : A �
 one_fault P (Ok x) next fault e first second = second x e
 one_fault P (Err f) next fault e first second = first (cc)
 
-on_line_fault : {A : Type 0} (line : ℕ) (found : Result A ObjWhy) (fault : ObjFault) → on_line line found ≡ Err fault → IsLineFault line fault
+on_line_fault : {A : Type 0} (line : ℕ) (found : Result A ObjWhy) (fault : ObjFault) → at_line line found ≡ Err fault → IsLineFault line fault
 on_line_fault line (Ok x) fault e = absurd (cc)
 on_line_fault line (Err why) fault e = inl (why, cc)
 
-too_many : (b : Bool) (more : Said) (fault : ObjFault) → cond b (Ok more) (Err TooMany) ≡ Err fault → fault ≡ TooMany
+too_many : (b : Bool) (more : MeshSoFar) (fault : ObjFault) → cond b (Ok more) (Err TooMany) ≡ Err fault → fault ≡ TooMany
 too_many true more fault e = absurd (cc)
 too_many false more fault e = cc
 
-vertex_fault : (scale : ℕ) (said : Said) (line : ℕ) (words : List (List ℕ)) (fault : ObjFault) → (on_line line (vertex_of scale words) >>= (λ p. Ok (with_vertex said p))) ≡ Err fault → IsLineFault line fault
-vertex_fault scale said line words fault e =
-    one_fault (IsLineFault line) (on_line line (vertex_of scale words)) _ fault e
+vertex_fault : (scale : ℕ) (mesh_so_far : MeshSoFar) (line : ℕ) (words : List (List ℕ)) (fault : ObjFault) → (at_line line (vertex_of scale words) >>= (λ p. Ok (with_vertex mesh_so_far p))) ≡ Err fault → IsLineFault line fault
+vertex_fault scale mesh_so_far line words fault e =
+    one_fault (IsLineFault line) (at_line line (vertex_of scale words)) _ fault e
     (on_line_fault line (vertex_of scale words) fault) (λ p never. absurd (cc))
 
-face_fault : (said : Said) (line : ℕ) (words : List (List ℕ)) (fault : ObjFault) → (on_line line (face_of said.vertices words) >>= with_triangles said) ≡ Err fault → IsLineFault line fault
-face_fault said line words fault e =
-    one_fault (IsLineFault line) (on_line line (face_of said.vertices words)) _ fault e
-    (on_line_fault line (face_of said.vertices words) fault)
-    (λ tris many. inr (too_many (leb (length said.triangles + length tris) (2 ^ 20)) _ fault many))
+face_fault : (mesh_so_far : MeshSoFar) (line : ℕ) (words : List (List ℕ)) (fault : ObjFault) → (at_line line (face_of mesh_so_far.vertices words) >>= with_triangles mesh_so_far) ≡ Err fault → IsLineFault line fault
+face_fault mesh_so_far line words fault e =
+    one_fault (IsLineFault line) (at_line line (face_of mesh_so_far.vertices words)) _ fault e
+    (on_line_fault line (face_of mesh_so_far.vertices words) fault)
+    (λ tris many. inr (too_many (leb (length mesh_so_far.triangles + length tris) (2 ^ 20)) _ fault many))
 
-by_kind : {P : Type 0} (is_vertex is_face : Bool) (vertex face other : Result Said ObjFault) (fault : ObjFault) → cond is_vertex vertex (cond is_face face other) ≡ Err fault → (vertex ≡ Err fault → P) → (face ≡ Err fault → P) → (other ≡ Err fault → P) → P
+by_kind : {P : Type 0} (is_vertex is_face : Bool) (vertex face other : Result MeshSoFar ObjFault) (fault : ObjFault) → cond is_vertex vertex (cond is_face face other) ≡ Err fault → (vertex ≡ Err fault → P) → (face ≡ Err fault → P) → (other ≡ Err fault → P) → P
 by_kind true is_face vertex face other fault e one two three = one e
 by_kind false true vertex face other fault e one two three = two e
 by_kind false false vertex face other fault e one two three = three e
 
 -- a line's fault is its own, or that there are too many triangles
-pub with_line-fault : (scale : ℕ) (said : Said) (line : ℕ) (words : List (List ℕ)) (fault : ObjFault) → with_line scale said line words ≡ Err fault → IsLineFault line fault
+pub with_line-fault : (scale : ℕ) (mesh_so_far : MeshSoFar) (line : ℕ) (words : List (List ℕ)) (fault : ObjFault) → with_line scale mesh_so_far line words ≡ Err fault → IsLineFault line fault
 unfolding with_line
-with_line-fault scale said line words fault e =
-    by_kind (begins_with 118 words) (begins_with 102 words) _ _ (Ok said) fault e
-    (vertex_fault scale said line words fault) (face_fault said line words fault) (λ never. absurd (cc))
+with_line-fault scale mesh_so_far line words fault e =
+    by_kind (begins_with 118 words) (begins_with 102 words) _ _ (Ok mesh_so_far) fault e
+    (vertex_fault scale mesh_so_far line words fault) (face_fault mesh_so_far line words fault) (λ never. absurd (cc))
 
 -- what holds of both holds of a line's fault
 pub by_line_fault : (P : ObjFault → Type 0) (line : ℕ) (fault : ObjFault) → IsLineFault line fault → ((why : ObjWhy) → P (Line line why)) → P TooMany → P fault

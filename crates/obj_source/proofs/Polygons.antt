@@ -4,32 +4,32 @@ use Rattle.geom_core.specs.declared.points.Pt.{Pt}
 use Rattle.geom_core.specs.declared.triangles.Tri.{Tri}
 use Rattle.obj_source.specs.declared.faults.ObjFault.{ObjFault}
 use Rattle.obj_source.specs.declared.faults.ObjWhy.{ObjWhy}
-use Rattle.obj_source.specs.declared.rows.Polygon.{Polygon}
-use Rattle.obj_source.specs.Mesh.{Said, ◌>>=◌, on_line, corner_of, corners_of}
-use Rattle.obj_source.specs.Rows.{with_corners, polygon_from}
+use Rattle.obj_source.specs.declared.line_state.FanState.{FanState}
+use Rattle.obj_source.specs.Mesh.{MeshSoFar, ◌>>=◌, at_line, corner_of, corners_of}
+use Rattle.obj_source.specs.LineStates.{with_corners, polygon_from}
 
-after_corner : (r : Result (List Pt) ObjWhy) (line : ℕ) (p : Pt) (now before : List Pt → Result Said ObjFault) →
+after_corner : (r : Result (List Pt) ObjWhy) (line : ℕ) (p : Pt) (now before : List Pt → Result MeshSoFar ObjFault) →
     ((points : List Pt) → now points ≡ before (p ∷ points)) →
-    (on_line line r >>= now) ≡ (on_line line (r >>= (λ points. Ok (p ∷ points))) >>= before)
+    (at_line line r >>= now) ≡ (at_line line (r >>= (λ points. Ok (p ∷ points))) >>= before)
 after_corner (Ok points) line p now before same = same points
 after_corner (Err why) line p now before same = refl
 
-abbrev said : List Pt → List Tri → Said
-said vertices triangles = record { vertices = vertices; triangles = triangles }
+abbrev mesh_so_far : List Pt → List Tri → MeshSoFar
+mesh_so_far vertices triangles = record { vertices = vertices; triangles = triangles }
 
 -- a corner without a fault
-pub polygon_joined : (vertices : List Pt) (now before : List Tri) (line place : ℕ) (joined polygon : Polygon) (word : List ℕ) (p : Pt) (more : List (List ℕ)) →
+pub polygon_joined : (vertices : List Pt) (now before : List Tri) (line place : ℕ) (joined polygon : FanState) (word : List ℕ) (p : Pt) (more : List (List ℕ)) →
     corner_of vertices place word ≡ Ok p →
-    ((points : List Pt) → with_corners (said vertices now) joined points ≡ with_corners (said vertices before) polygon (p ∷ points)) →
-    polygon_from (said vertices now) line (place + 1) (Ok joined) more
-    ≡ polygon_from (said vertices before) line place (Ok polygon) (word ∷ more)
+    ((points : List Pt) → with_corners (mesh_so_far vertices now) joined points ≡ with_corners (mesh_so_far vertices before) polygon (p ∷ points)) →
+    polygon_from (mesh_so_far vertices now) line (place + 1) (Ok joined) more
+    ≡ polygon_from (mesh_so_far vertices before) line place (Ok polygon) (word ∷ more)
 polygon_joined vertices now before line place joined polygon word p more is_corner same =
     rw is_corner
-    (after_corner (corners_of vertices (place + 1) more) line p (with_corners (said vertices now) joined) (with_corners (said vertices before) polygon) same)
+    (after_corner (corners_of vertices (place + 1) more) line p (with_corners (mesh_so_far vertices now) joined) (with_corners (mesh_so_far vertices before) polygon) same)
 
 -- the first corner with a fault
-pub polygon_faulty : (vertices : List Pt) (now before : List Tri) (line place : ℕ) (polygon : Polygon) (word : List ℕ) (why : ObjWhy) (more : List (List ℕ)) →
+pub polygon_faulty : (vertices : List Pt) (now before : List Tri) (line place : ℕ) (polygon : FanState) (word : List ℕ) (why : ObjWhy) (more : List (List ℕ)) →
     corner_of vertices place word ≡ Err why →
-    polygon_from (said vertices now) line (place + 1) (Err why) more
-    ≡ polygon_from (said vertices before) line place (Ok polygon) (word ∷ more)
+    polygon_from (mesh_so_far vertices now) line (place + 1) (Err why) more
+    ≡ polygon_from (mesh_so_far vertices before) line place (Ok polygon) (word ∷ more)
 polygon_faulty vertices now before line place polygon word why more is_fault = rw is_fault refl

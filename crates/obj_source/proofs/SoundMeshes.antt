@@ -16,7 +16,7 @@ use Rattle.obj_source.specs.declared.numbers.NumberWhy.{NumberWhy}
 use Rattle.obj_source.specs.declared.numbers.NumberWhy.TheVariants.{Bad, Range}
 use Rattle.obj_source.specs.Lines.{lines_of, words_of}
 use Rattle.obj_source.specs.Numerals.{Numeral, numeral_of, is_short, scaled, is_coordinate, in_grid, coordinate_in, coordinate_of, has_minus}
-use Rattle.obj_source.specs.Mesh.{◌>>=◌, number_at, coordinate_at, vertex_of, vertex_named, named_or, corner_of, corners_of, fan, face_of, Said, nothing, with_vertex, with_triangles, on_line, begins_with, with_line, read_lines, some_triangles, longest, mesh}
+use Rattle.obj_source.specs.Mesh.{◌>>=◌, number_at, coordinate_at, vertex_of, vertex_named, named_or, corner_of, corners_of, fan, face_of, MeshSoFar, nothing, with_vertex, with_triangles, at_line, begins_with, with_line, read_lines, some_triangles, longest, mesh}
 use Rattle.obj_source.specs.Readings.{Listed}
 use Rattle.obj_source.specs.SourceTriangles.{has_distinct_corners, InRange, IsSourcePoint, IsSourceTriangle, AreSourceTriangles}
 
@@ -152,10 +152,10 @@ face_is_source vertices words tris all e =
     (distinct_are_source (fan points.0)
     (fan_all IsSourcePoint points.0 (corners_of_all IsSourcePoint vertices 1 (drop 1 words) points.0 all points.1)))
 
--- what the lines so far have said is sound
-pub record IsSound (said : Said) : Type 0 where
-  pub vertices : All IsSourcePoint said.vertices
-  pub triangles : AreSourceTriangles said.triangles
+-- what the lines so far have mesh_so_far is sound
+pub record IsSound (mesh_so_far : MeshSoFar) : Type 0 where
+  pub vertices : All IsSourcePoint mesh_so_far.vertices
+  pub triangles : AreSourceTriangles mesh_so_far.triangles
 
 pub nothing_sound : IsSound nothing
 nothing_sound = record {
@@ -163,75 +163,75 @@ nothing_sound = record {
   triangles = record { each = All-nil IsSourceTriangle; count = omega arith };
 }
 
-pub with_vertex_sound : (said : Said) (p : Pt) → IsSound said → IsSourcePoint p → IsSound (with_vertex said p)
-with_vertex_sound said p sound is_p = record {
-  vertices = All-push IsSourcePoint said.vertices p sound.vertices is_p;
+pub with_vertex_sound : (mesh_so_far : MeshSoFar) (p : Pt) → IsSound mesh_so_far → IsSourcePoint p → IsSound (with_vertex mesh_so_far p)
+with_vertex_sound mesh_so_far p sound is_p = record {
+  vertices = All-push IsSourcePoint mesh_so_far.vertices p sound.vertices is_p;
   triangles = sound.triangles;
 }
 
-pub with_triangles_sound : (said more : Said) (tris : List Tri) → IsSound said → All IsSourceTriangle tris → with_triangles said tris ≡ Ok more → IsSound more
-with_triangles_sound said more tris sound all e =
-    let fits = passed_ok (leb (length said.triangles + length tris) (2 ^ 20)) (Ok _) TooMany more e in
-    let count = leb-true (length said.triangles + length tris) (2 ^ 20) fits.0 in
+pub with_triangles_sound : (mesh_so_far more : MeshSoFar) (tris : List Tri) → IsSound mesh_so_far → All IsSourceTriangle tris → with_triangles mesh_so_far tris ≡ Ok more → IsSound more
+with_triangles_sound mesh_so_far more tris sound all e =
+    let fits = passed_ok (leb (length mesh_so_far.triangles + length tris) (2 ^ 20)) (Ok _) TooMany more e in
+    let count = leb-true (length mesh_so_far.triangles + length tris) (2 ^ 20) fits.0 in
     subst IsSound (same_ok _ more fits.1) (record {
       vertices = sound.vertices;
       triangles = record {
-        each = All-append IsSourceTriangle said.triangles tris sound.triangles.each all;
-        count = omega (arith, length-append said.triangles tris);
+        each = All-append IsSourceTriangle mesh_so_far.triangles tris sound.triangles.each all;
+        count = omega (arith, length-append mesh_so_far.triangles tris);
       };
     })
 
--- what a line said, it said
-said_ok : {A : Type 0} (line : ℕ) (found : Result A ObjWhy) (x : A) → on_line line found ≡ Ok x → found ≡ Ok x
+-- what a line mesh_so_far, it mesh_so_far
+said_ok : {A : Type 0} (line : ℕ) (found : Result A ObjWhy) (x : A) → at_line line found ≡ Ok x → found ≡ Ok x
 said_ok line (Ok y) x e = cc
 said_ok line (Err why) x e = absurd (cc)
 
-vertex_line_sound : (scale : ℕ) (said more : Said) (line : ℕ) (words : List (List ℕ)) → IsSound said → (on_line line (vertex_of scale words) >>= (λ p. Ok (with_vertex said p))) ≡ Ok more → IsSound more
-vertex_line_sound scale said more line words sound e =
-    let p = both_ok (on_line line (vertex_of scale words)) _ more e in
+vertex_line_sound : (scale : ℕ) (mesh_so_far more : MeshSoFar) (line : ℕ) (words : List (List ℕ)) → IsSound mesh_so_far → (at_line line (vertex_of scale words) >>= (λ p. Ok (with_vertex mesh_so_far p))) ≡ Ok more → IsSound more
+vertex_line_sound scale mesh_so_far more line words sound e =
+    let p = both_ok (at_line line (vertex_of scale words)) _ more e in
     subst IsSound (same_ok _ more p.2)
-    (with_vertex_sound said p.0 sound (vertex_is_source scale words p.0 (said_ok line (vertex_of scale words) p.0 p.1)))
+    (with_vertex_sound mesh_so_far p.0 sound (vertex_is_source scale words p.0 (said_ok line (vertex_of scale words) p.0 p.1)))
 
-face_line_sound : (said more : Said) (line : ℕ) (words : List (List ℕ)) → IsSound said → (on_line line (face_of said.vertices words) >>= with_triangles said) ≡ Ok more → IsSound more
-face_line_sound said more line words sound e =
-    let tris = both_ok (on_line line (face_of said.vertices words)) (with_triangles said) more e in
-    with_triangles_sound said more tris.0 sound
-    (face_is_source said.vertices words tris.0 sound.vertices (said_ok line (face_of said.vertices words) tris.0 tris.1)) tris.2
+face_line_sound : (mesh_so_far more : MeshSoFar) (line : ℕ) (words : List (List ℕ)) → IsSound mesh_so_far → (at_line line (face_of mesh_so_far.vertices words) >>= with_triangles mesh_so_far) ≡ Ok more → IsSound more
+face_line_sound mesh_so_far more line words sound e =
+    let tris = both_ok (at_line line (face_of mesh_so_far.vertices words)) (with_triangles mesh_so_far) more e in
+    with_triangles_sound mesh_so_far more tris.0 sound
+    (face_is_source mesh_so_far.vertices words tris.0 sound.vertices (said_ok line (face_of mesh_so_far.vertices words) tris.0 tris.1)) tris.2
 
-by_kind : (is_vertex is_face : Bool) (vertex face other : Result Said ObjFault) (more : Said) → cond is_vertex vertex (cond is_face face other) ≡ Ok more → (vertex ≡ Ok more → IsSound more) → (face ≡ Ok more → IsSound more) → (other ≡ Ok more → IsSound more) → IsSound more
+by_kind : (is_vertex is_face : Bool) (vertex face other : Result MeshSoFar ObjFault) (more : MeshSoFar) → cond is_vertex vertex (cond is_face face other) ≡ Ok more → (vertex ≡ Ok more → IsSound more) → (face ≡ Ok more → IsSound more) → (other ≡ Ok more → IsSound more) → IsSound more
 by_kind true is_face vertex face other more e one two three = one e
 by_kind false true vertex face other more e one two three = two e
 by_kind false false vertex face other more e one two three = three e
 
 -- one line more
-pub with_line_sound : (scale : ℕ) (said more : Said) (line : ℕ) (words : List (List ℕ)) → IsSound said → with_line scale said line words ≡ Ok more → IsSound more
+pub with_line_sound : (scale : ℕ) (mesh_so_far more : MeshSoFar) (line : ℕ) (words : List (List ℕ)) → IsSound mesh_so_far → with_line scale mesh_so_far line words ≡ Ok more → IsSound more
 unfolding with_line
-with_line_sound scale said more line words sound e =
-    by_kind (begins_with 118 words) (begins_with 102 words) _ _ (Ok said) more e
-    (vertex_line_sound scale said more line words sound)
-    (face_line_sound said more line words sound)
-    (λ same. subst IsSound (same_ok said more same) sound)
+with_line_sound scale mesh_so_far more line words sound e =
+    by_kind (begins_with 118 words) (begins_with 102 words) _ _ (Ok mesh_so_far) more e
+    (vertex_line_sound scale mesh_so_far more line words sound)
+    (face_line_sound mesh_so_far more line words sound)
+    (λ same. subst IsSound (same_ok mesh_so_far more same) sound)
 
 -- the lines in order
-pub read_lines_sound : (scale : ℕ) (said more : Said) (line : ℕ) (lines : List (List ℕ)) → IsSound said → read_lines scale said line lines ≡ Ok more → IsSound more
-read_lines_sound scale said more line [] sound e = subst IsSound (same_ok said more e) sound
-read_lines_sound scale said more line (first ∷ rest) sound e =
-    let next = both_ok (with_line scale said line (words_of first)) _ more e in
-    read_lines_sound scale next.0 more (line + 1) rest (with_line_sound scale said next.0 line (words_of first) sound next.1) next.2
+pub read_lines_sound : (scale : ℕ) (mesh_so_far more : MeshSoFar) (line : ℕ) (lines : List (List ℕ)) → IsSound mesh_so_far → read_lines scale mesh_so_far line lines ≡ Ok more → IsSound more
+read_lines_sound scale mesh_so_far more line [] sound e = subst IsSound (same_ok mesh_so_far more e) sound
+read_lines_sound scale mesh_so_far more line (first ∷ rest) sound e =
+    let next = both_ok (with_line scale mesh_so_far line (words_of first)) _ more e in
+    read_lines_sound scale next.0 more (line + 1) rest (with_line_sound scale mesh_so_far next.0 line (words_of first) sound next.1) next.2
 
-some_triangles_sound : (said : Said) (tris : List Tri) → IsSound said → some_triangles said ≡ Ok tris → AreSourceTriangles tris
-some_triangles_sound said tris sound e =
-    subst AreSourceTriangles (same_ok said.triangles tris (refused_ok (eqb (length said.triangles) 0) Empty _ tris e)) sound.triangles
+some_triangles_sound : (mesh_so_far : MeshSoFar) (tris : List Tri) → IsSound mesh_so_far → some_triangles mesh_so_far ≡ Ok tris → AreSourceTriangles tris
+some_triangles_sound mesh_so_far tris sound e =
+    subst AreSourceTriangles (same_ok mesh_so_far.triangles tris (refused_ok (eqb (length mesh_so_far.triangles) 0) Empty _ tris e)) sound.triangles
 
 -- a text that is read whole
 whole_sound : (scale : ℕ) (lines : List (List ℕ)) (tris : List Tri) → (read_lines scale nothing 1 lines >>= some_triangles) ≡ Ok tris → AreSourceTriangles tris
 whole_sound scale lines tris e =
-    let said = both_ok (read_lines scale nothing 1 lines) some_triangles tris e in
-    some_triangles_sound said.0 tris (read_lines_sound scale nothing said.0 1 lines nothing_sound said.1) said.2
+    let mesh_so_far = both_ok (read_lines scale nothing 1 lines) some_triangles tris e in
+    some_triangles_sound mesh_so_far.0 tris (read_lines_sound scale nothing mesh_so_far.0 1 lines nothing_sound mesh_so_far.1) mesh_so_far.2
 
 -- a text that is too long has no triangles
-never_ok : (read : Result Said ObjFault) (tris : List Tri) → ◌≡◌ {A = Result (List Tri) ObjFault} (read >>= (λ said. Err TooLong)) (Ok tris) → AreSourceTriangles tris
-never_ok (Ok said) tris e = absurd (cc)
+never_ok : (read : Result MeshSoFar ObjFault) (tris : List Tri) → ◌≡◌ {A = Result (List Tri) ObjFault} (read >>= (λ mesh_so_far. Err TooLong)) (Ok tris) → AreSourceTriangles tris
+never_ok (Ok mesh_so_far) tris e = absurd (cc)
 never_ok (Err fault) tris e = absurd (cc)
 
 by_length : (is_short : Bool) (short long : Result (List Tri) ObjFault) (tris : List Tri) → cond is_short short long ≡ Ok tris → (short ≡ Ok tris → AreSourceTriangles tris) → (long ≡ Ok tris → AreSourceTriangles tris) → AreSourceTriangles tris

@@ -11,8 +11,8 @@ use Rattle.geom_core.specs.declared.triangles.Tri.{Tri}
 use Rattle.obj_source.specs.declared.faults.ObjFault.{ObjFault}
 use Rattle.obj_source.specs.declared.faults.ObjFault.TheVariants.{TooLong}
 use Rattle.obj_source.specs.Lines.{is_line_feed, lines_of, words_of}
-use Rattle.obj_source.specs.Mesh.{Said, nothing, with_line, read_lines, ended_lines, longest, mesh, some_triangles, ◌>>=◌}
-use Rattle.obj_source.specs.Tokens.{LinesRead, IsFirstFault}
+use Rattle.obj_source.specs.Mesh.{MeshSoFar, nothing, with_line, read_lines, ended_lines, longest, mesh, some_triangles, ◌>>=◌}
+use Rattle.obj_source.specs.Scanner.{LinesRead, IsFirstFault}
 
 -- no byte of it ends a line
 abbrev pub IsOneLine : List ℕ → Type 0
@@ -41,33 +41,33 @@ pub LinesRead-nil : (scale : ℕ) → LinesRead scale [] nothing 1 []
 LinesRead-nil scale = record { one_line = All-nil (λ b. is_line_feed b ≡ false); all = λ rest. refl; ended = λ rest. refl }
 
 -- bytes that end no line
-pub LinesRead-span : (scale : ℕ) (text : List ℕ) (said : Said) (line : ℕ) (begun span : List ℕ) → LinesRead scale text said line begun → IsOneLine span → LinesRead scale (text ++ span) said line (begun ++ span)
-LinesRead-span scale text said line begun span so_far one = record {
+pub LinesRead-span : (scale : ℕ) (text : List ℕ) (mesh_so_far : MeshSoFar) (line : ℕ) (begun span : List ℕ) → LinesRead scale text mesh_so_far line begun → IsOneLine span → LinesRead scale (text ++ span) mesh_so_far line (begun ++ span)
+LinesRead-span scale text mesh_so_far line begun span so_far one = record {
   one_line = All-append (λ b. is_line_feed b ≡ false) begun span so_far.one_line one;
   all = λ rest. rw (append_assoc text span rest, append_assoc begun span rest) (so_far.all (span ++ rest));
   ended = λ rest. rw (append_assoc text span rest, append_assoc begun span rest) (so_far.ended (span ++ rest));
 }
 
 -- an LF ends the line
-pub LinesRead-feed : (scale : ℕ) (text : List ℕ) (said more : Said) (line : ℕ) (begun : List ℕ) → LinesRead scale text said line begun → with_line scale said line (words_of begun) ≡ Ok more → LinesRead scale (text ++ 10 ∷ []) more (line + 1) []
-LinesRead-feed scale text said more line begun so_far judged = record {
+pub LinesRead-feed : (scale : ℕ) (text : List ℕ) (mesh_so_far more : MeshSoFar) (line : ℕ) (begun : List ℕ) → LinesRead scale text mesh_so_far line begun → with_line scale mesh_so_far line (words_of begun) ≡ Ok more → LinesRead scale (text ++ 10 ∷ []) more (line + 1) []
+LinesRead-feed scale text mesh_so_far more line begun so_far judged = record {
   one_line = All-nil (λ b. is_line_feed b ≡ false);
   all = λ rest. rw (append_assoc text (10 ∷ []) rest) (so_far.all (10 ∷ rest)
-      ∙ ap (read_lines scale said line) (lines_of-first begun rest so_far.one_line)
+      ∙ ap (read_lines scale mesh_so_far line) (lines_of-first begun rest so_far.one_line)
       ∙ ap (λ r. r >>= (λ m. read_lines scale m (line + 1) (lines_of rest))) judged);
   ended = λ rest. rw (append_assoc text (10 ∷ []) rest) (so_far.ended (10 ∷ rest)
-      ∙ ap (read_lines scale said line) (ended_lines-first begun rest so_far.one_line)
+      ∙ ap (read_lines scale mesh_so_far line) (ended_lines-first begun rest so_far.one_line)
       ∙ ap (λ r. r >>= (λ m. read_lines scale m (line + 1) (ended_lines rest))) judged);
 }
 
 -- and a line with a fault gives it, whatever follows
-pub IsFirstFault-feed : (scale : ℕ) (text : List ℕ) (said : Said) (line : ℕ) (begun : List ℕ) (fault : ObjFault) → LinesRead scale text said line begun → with_line scale said line (words_of begun) ≡ Err fault → IsFirstFault scale (text ++ 10 ∷ []) fault
-IsFirstFault-feed scale text said line begun fault so_far judged = record {
+pub IsFirstFault-feed : (scale : ℕ) (text : List ℕ) (mesh_so_far : MeshSoFar) (line : ℕ) (begun : List ℕ) (fault : ObjFault) → LinesRead scale text mesh_so_far line begun → with_line scale mesh_so_far line (words_of begun) ≡ Err fault → IsFirstFault scale (text ++ 10 ∷ []) fault
+IsFirstFault-feed scale text mesh_so_far line begun fault so_far judged = record {
   all = λ rest. rw (append_assoc text (10 ∷ []) rest) (so_far.all (10 ∷ rest)
-      ∙ ap (read_lines scale said line) (lines_of-first begun rest so_far.one_line)
+      ∙ ap (read_lines scale mesh_so_far line) (lines_of-first begun rest so_far.one_line)
       ∙ ap (λ r. r >>= (λ m. read_lines scale m (line + 1) (lines_of rest))) judged);
   ended = λ rest. rw (append_assoc text (10 ∷ []) rest) (so_far.ended (10 ∷ rest)
-      ∙ ap (read_lines scale said line) (ended_lines-first begun rest so_far.one_line)
+      ∙ ap (read_lines scale mesh_so_far line) (ended_lines-first begun rest so_far.one_line)
       ∙ ap (λ r. r >>= (λ m. read_lines scale m (line + 1) (ended_lines rest))) judged);
 }
 
@@ -83,12 +83,12 @@ mesh-short : (scale : ℕ) (text : List ℕ) → length text ≤ longest → mes
 unfolding mesh
 mesh-short scale text short = let e : leb (length text) longest ≡ true = grind (arith, nat_tests) in rw e
 
-mesh-long : (scale : ℕ) (text : List ℕ) → longest < length text → mesh scale text ≡ read_lines scale nothing 1 (ended_lines (take longest text)) >>= (λ said. Err TooLong)
+mesh-long : (scale : ℕ) (text : List ℕ) → longest < length text → mesh scale text ≡ read_lines scale nothing 1 (ended_lines (take longest text)) >>= (λ mesh_so_far. Err TooLong)
 unfolding mesh
 mesh-long scale text long = let e : leb (length text) longest ≡ false = grind (arith, nat_tests) in rw e
 
-abbrev too_long_after : Result Said ObjFault → Result (List Tri) ObjFault
-too_long_after r = r >>= (λ said. Err TooLong)
+abbrev too_long_after : Result MeshSoFar ObjFault → Result (List Tri) ObjFault
+too_long_after r = r >>= (λ mesh_so_far. Err TooLong)
 
 pub take_over : (n : ℕ) (front rest : List ℕ) → length front ≤ n → take n (front ++ rest) ≡ front ++ take (n - length front) rest
 take_over n front rest short =
@@ -101,7 +101,7 @@ mesh-fault scale text rest fault short first =
     elim (cases_lt longest (length (text ++ rest))) [
       | inl long ↦
           mesh-long scale (text ++ rest) long
-          ∙ ap (λ t. read_lines scale nothing 1 (ended_lines t) >>= (λ said. Err TooLong)) (take_over longest text rest short)
+          ∙ ap (λ t. read_lines scale nothing 1 (ended_lines t) >>= (λ mesh_so_far. Err TooLong)) (take_over longest text rest short)
           ∙ ap too_long_after (first.ended (take (longest - length text) rest))
       | inr short ↦
           mesh-short scale (text ++ rest) short
@@ -109,22 +109,22 @@ mesh-fault scale text rest fault short first =
     ]
 
 -- a text with too many bytes and no fault
-pub mesh-too_long : (scale : ℕ) (text rest : List ℕ) (said : Said) (line : ℕ) (begun : List ℕ) → longest < length text → LinesRead scale (take longest text) said line begun → mesh scale (text ++ rest) ≡ Err TooLong
-mesh-too_long scale text rest said line begun long so_far =
+pub mesh-too_long : (scale : ℕ) (text rest : List ℕ) (mesh_so_far : MeshSoFar) (line : ℕ) (begun : List ℕ) → longest < length text → LinesRead scale (take longest text) mesh_so_far line begun → mesh scale (text ++ rest) ≡ Err TooLong
+mesh-too_long scale text rest mesh_so_far line begun long so_far =
     let looked_at = take longest text in
     mesh-long scale (text ++ rest) (omega (arith, length-append text rest))
-    ∙ ap (λ t. read_lines scale nothing 1 (ended_lines t) >>= (λ said. Err TooLong))
+    ∙ ap (λ t. read_lines scale nothing 1 (ended_lines t) >>= (λ mesh_so_far. Err TooLong))
     (take-append-le longest text rest (omega arith) ∙ sym (append-nil looked_at))
     ∙ ap too_long_after
-    (so_far.ended [] ∙ ap (λ l. read_lines scale said line (ended_lines l)) (append-nil begun)
-    ∙ ap (read_lines scale said line) (ended_lines-one begun so_far.one_line))
+    (so_far.ended [] ∙ ap (λ l. read_lines scale mesh_so_far line (ended_lines l)) (append-nil begun)
+    ∙ ap (read_lines scale mesh_so_far line) (ended_lines-one begun so_far.one_line))
 
 -- the last line, which no LF ends
-pub mesh-last : (scale : ℕ) (text : List ℕ) (said : Said) (line : ℕ) (begun : List ℕ) → length text ≤ longest → LinesRead scale text said line begun → mesh scale text ≡ (with_line scale said line (words_of begun) >>= (λ more. Ok more)) >>= some_triangles
-mesh-last scale text said line begun short so_far =
+pub mesh-last : (scale : ℕ) (text : List ℕ) (mesh_so_far : MeshSoFar) (line : ℕ) (begun : List ℕ) → length text ≤ longest → LinesRead scale text mesh_so_far line begun → mesh scale text ≡ (with_line scale mesh_so_far line (words_of begun) >>= (λ more. Ok more)) >>= some_triangles
+mesh-last scale text mesh_so_far line begun short so_far =
     mesh-short scale text short
     ∙ ap (λ r. r >>= some_triangles)
     (ap (λ t. read_lines scale nothing 1 (lines_of t)) (sym (append-nil text))
     ∙ so_far.all []
-    ∙ ap (λ l. read_lines scale said line (lines_of l)) (append-nil begun)
-    ∙ ap (read_lines scale said line) (lines_of-one begun so_far.one_line))
+    ∙ ap (λ l. read_lines scale mesh_so_far line (lines_of l)) (append-nil begun)
+    ∙ ap (read_lines scale mesh_so_far line) (lines_of-one begun so_far.one_line))

@@ -1,10 +1,10 @@
-pub mod Drafts
+pub mod Builder
+pub mod LineStates
 pub mod Lines
 pub mod Mesh
 pub mod Numerals
 pub mod Readings
 pub mod References
-pub mod Rows
+pub mod Scanner
 pub mod Scans
 pub mod SourceTriangles
-pub mod Tokens

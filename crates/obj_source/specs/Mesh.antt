@@ -88,26 +88,26 @@ face_of vertices words =
     if nat_lt (length words) 4 then Err ShortFace
     else (corners_of vertices 1 (drop 1 words) >>= (λ points. Ok (filter has_distinct_corners (fan points))))
 
--- what the lines so far have said
-pub record Said : Type 0 where
+-- what the lines so far have mesh_so_far
+pub record MeshSoFar : Type 0 where
   pub vertices : List Pt
   pub triangles : List Tri
 
-abbrev pub nothing : Said
+abbrev pub nothing : MeshSoFar
 nothing = record { vertices = []; triangles = [] }
 
-abbrev pub with_vertex : Said → Pt → Said
-with_vertex said p = record said { vertices = said.vertices ++ p ∷ [] }
+abbrev pub with_vertex : MeshSoFar → Pt → MeshSoFar
+with_vertex mesh_so_far p = record mesh_so_far { vertices = mesh_so_far.vertices ++ p ∷ [] }
 
 -- a text has at most 2^20 triangles
-abbrev pub with_triangles : Said → List Tri → Result Said ObjFault
-with_triangles said tris =
-    if nat_le (length said.triangles + length tris) (2 ^ 20)
-    then Ok (record said { triangles = said.triangles ++ tris }) else Err TooMany
+abbrev pub with_triangles : MeshSoFar → List Tri → Result MeshSoFar ObjFault
+with_triangles mesh_so_far tris =
+    if nat_le (length mesh_so_far.triangles + length tris) (2 ^ 20)
+    then Ok (record mesh_so_far { triangles = mesh_so_far.triangles ++ tris }) else Err TooMany
 
-abbrev pub on_line : {A : Type 0} → ℕ → Result A ObjWhy → Result A ObjFault
-on_line line (Ok found) = Ok found
-on_line line (Err why) = Err (Line line why)
+abbrev pub at_line : {A : Type 0} → ℕ → Result A ObjWhy → Result A ObjFault
+at_line line (Ok found) = Ok found
+at_line line (Err why) = Err (Line line why)
 
 -- the words begin with this letter alone
 abbrev pub begins_with : ℕ → List (List ℕ) → Bool
@@ -115,21 +115,21 @@ begins_with letter [] = false
 begins_with letter (kind ∷ words) = length kind == 1 && slice_index kind 0 == letter
 
 -- one line more, of this number
-unfoldable pub with_line : ℕ → Said → ℕ → List (List ℕ) → Result Said ObjFault
-with_line scale said line words =
-    if begins_with 118 words then (on_line line (vertex_of scale words) >>= (λ p. Ok (with_vertex said p)))
-    else (if begins_with 102 words then (on_line line (face_of said.vertices words) >>= with_triangles said)
-    else Ok said)
+unfoldable pub with_line : ℕ → MeshSoFar → ℕ → List (List ℕ) → Result MeshSoFar ObjFault
+with_line scale mesh_so_far line words =
+    if begins_with 118 words then (at_line line (vertex_of scale words) >>= (λ p. Ok (with_vertex mesh_so_far p)))
+    else (if begins_with 102 words then (at_line line (face_of mesh_so_far.vertices words) >>= with_triangles mesh_so_far)
+    else Ok mesh_so_far)
 
--- the lines in order, the first of which has this number, each over what those before it said
-abbrev pub read_lines : ℕ → Said → ℕ → List (List ℕ) → Result Said ObjFault
-read_lines scale said line [] = Ok said
-read_lines scale said line (first ∷ rest) =
-    with_line scale said line (words_of first) >>= (λ more. read_lines scale more (line + 1) rest)
+-- the lines in order, the first of which has this number, each over what those before it mesh_so_far
+abbrev pub read_lines : ℕ → MeshSoFar → ℕ → List (List ℕ) → Result MeshSoFar ObjFault
+read_lines scale mesh_so_far line [] = Ok mesh_so_far
+read_lines scale mesh_so_far line (first ∷ rest) =
+    with_line scale mesh_so_far line (words_of first) >>= (λ more. read_lines scale more (line + 1) rest)
 
 -- at least one triangle
-abbrev pub some_triangles : Said → Result (List Tri) ObjFault
-some_triangles said = if length said.triangles == 0 then Err Empty else Ok said.triangles
+abbrev pub some_triangles : MeshSoFar → Result (List Tri) ObjFault
+some_triangles mesh_so_far = if length mesh_so_far.triangles == 0 then Err Empty else Ok mesh_so_far.triangles
 
 -- the most bytes of a text that is read
 abbrev pub longest : ℕ
@@ -145,4 +145,4 @@ unfoldable pub mesh : ℕ → List ℕ → Result (List Tri) ObjFault
 mesh scale text =
     if nat_le (length text) longest
     then (read_lines scale nothing 1 (lines_of text) >>= some_triangles)
-    else (read_lines scale nothing 1 (ended_lines (take longest text)) >>= (λ said. Err TooLong))
+    else (read_lines scale nothing 1 (ended_lines (take longest text)) >>= (λ mesh_so_far. Err TooLong))

@@ -6,14 +6,14 @@
 #![tactic(auto)]
 
 mod decimals;
-mod drafts;
 mod faults;
+mod line_state;
+mod mesh_builder;
 mod numbers;
+mod obj_scanner;
 mod reading;
 mod references;
 mod rounding;
-mod rows;
-mod tokens;
 
 pub use faults::{ObjFault, ObjWhy};
 pub use numbers::{NumberWhy, read_coordinate};

@@ -20,7 +20,7 @@ pub enum NumberWhy {
 /// 18th significant one. The value is then exact; times the scale, it is rounded to the nearest whole
 /// number, halves up.
 pub fn read_coordinate(word: &[u8], scale: u32) -> Result<i32, NumberWhy>
-    requires grid { (1 ≤ scale) × (scale ≤ 65536) }
+    requires scale_range { (1 ≤ scale) × (scale ≤ 65536) }
     ensures { result ≡ coordinate_of scale word.now }
 {
     match decimal_of(word) {

@@ -3,16 +3,16 @@ ghost use Rattle.obj_source.specs.Readings.{Listed, ReadToEnd, Refused};
 ghost use Rattle.obj_source.specs.SourceTriangles.{AreSourceTriangles};
 
 use crate::faults::ObjFault;
-use crate::tokens::Tokens;
+use crate::obj_scanner::ObjScanner;
 use geom_core::Tri;
 use span_io::{Got, Source};
 use std::alloc::{AllocError, Global};
 
 /// The most bytes of a text that is read.
-const LONGEST: usize = 268_435_456;
+const MAX_OBJ_BYTES: usize = 268_435_456;
 
 /// The most bytes that are asked for at once.
-const PIECE: usize = 65_536;
+const READ_BYTES: usize = 65_536;
 
 /// So many bytes, all 0.
 fn zeros(alloc: Global, len: usize) -> Result<Vec<u8>, AllocError>
@@ -34,7 +34,7 @@ fn zeros(alloc: Global, len: usize) -> Result<Vec<u8>, AllocError>
 /// only where the source's count of faults rose. Memory is taken for the vertices, the triangles and the
 /// longest word of a `v` or `f` line.
 pub fn read_obj<S: Source>(alloc: Global, src: &mut S, scale: u32) -> Result<Vec<Tri>, ObjFault>
-    requires grid { (1 ≤ scale) × (scale ≤ 65536) }
+    requires scale_range { (1 ≤ scale) × (scale ≤ 65536) }
 
     ensures listed { IfOk result (λ tris. Listed scale (S.left src.old) tris.items) }
     ensures sound { IfOk result (λ tris. AreSourceTriangles tris.items) }
@@ -42,20 +42,20 @@ pub fn read_obj<S: Source>(alloc: Global, src: &mut S, scale: u32) -> Result<Vec
 
     ensures refused { IfErr result (Refused scale (S.left src.old) (S.left src.new)
         (S.faults src.old) (S.faults src.new)) }
-    ensures count { S.faults src.old ≤ S.faults src.new }
+    ensures fault_count { S.faults src.old ≤ S.faults src.new }
 {
-    let mut tokens = Tokens::of(alloc, scale);
-    let mut buffer = zeros(alloc, PIECE)?;
+    let mut scanner = ObjScanner::of(alloc, scale);
+    let mut buffer = zeros(alloc, READ_BYTES)?;
     let mut count = 0;
-    'pieces: while count <= LONGEST {
-        let room = PIECE.min(LONGEST + 1 - count);
+    'pieces: while count <= MAX_OBJ_BYTES {
+        let room = READ_BYTES.min(MAX_OBJ_BYTES + 1 - count);
         let piece = &mut buffer[..room];
         match src.read_some(piece) {
             Got::Bytes(more) => {
-                tokens.take(&piece[..more.min(LONGEST - count)])?;
+                scanner.take(&piece[..more.min(MAX_OBJ_BYTES - count)])?;
                 count += more;
             }
-            Got::End => return tokens.end(),
+            Got::End => return scanner.end(),
             Got::Failed => return Err(ObjFault::Read),
         }
     }

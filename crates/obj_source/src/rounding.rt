@@ -6,10 +6,10 @@ use crate::decimals::Decimal;
 use crate::numbers::NumberWhy;
 
 /// The greatest coordinate, and the least one below 0.
-const FURTHEST: u128 = 1_048_576;
+const MAX_COORDINATE: u128 = 1_048_576;
 
 /// So many digits behind the point make 0 of any numeral, whatever its exponent.
-const FAR_BEHIND: usize = 20_000;
+const MAX_DECIMAL_PLACES: usize = 20_000;
 
 /// One step times the next power of ten is outside of the grid.
 const HIGHEST_POWER: i32 = 6;
@@ -44,8 +44,8 @@ const POWERS: [u64; 19] = [
 fn power_of_ten(exponent: u32) -> u64
     requires { exponent < 19 }
     ensures power { result ≡ 10 ^ exponent }
-    ensures some { 1 ≤ result }
-    ensures small { result ≤ 10 ^ 18 }
+    ensures positive { 1 ≤ result }
+    ensures power_limit { result ≤ 10 ^ 18 }
 {
     POWERS[exponent as usize]
 }
@@ -54,8 +54,8 @@ fn power_of_ten(exponent: u32) -> u64
 fn wide_power_of_ten(exponent: u32) -> u128
     requires { exponent < 24 }
     ensures power { result ≡ 10 ^ exponent }
-    ensures some { 1 ≤ result }
-    ensures small { result ≤ 10 ^ 23 }
+    ensures positive { 1 ≤ result }
+    ensures power_limit { result ≤ 10 ^ 23 }
 {
     10u128.pow(exponent)
 }
@@ -64,7 +64,7 @@ fn wide_power_of_ten(exponent: u32) -> u128
 fn in_grid(is_negative: bool, size: u128) -> Result<i32, NumberWhy>
     ensures { result ≡ in_grid (signed is_negative size) }
 {
-    if size > FURTHEST {
+    if size > MAX_COORDINATE {
         return Err(NumberWhy::Range);
     }
     let size = size as i32;
@@ -72,9 +72,9 @@ fn in_grid(is_negative: bool, size: u128) -> Result<i32, NumberWhy>
 }
 
 /// The size of steps / 10^places, rounded to the nearest whole number, halves up, in 64 bits.
-fn rounded(is_negative: bool, steps: u64, places: u32) -> u64
-    requires small { steps < 2 ^ 62 }
-    requires places { places < 19 }
+fn round_half_up(is_negative: bool, steps: u64, places: u32) -> u64
+    requires step_limit { steps < 2 ^ 62 }
+    requires place_limit { places < 19 }
     ensures { signed is_negative result ≡ nearest (signed is_negative steps) (10 ^ places) }
 {
     let unit = power_of_ten(places);
@@ -82,9 +82,9 @@ fn rounded(is_negative: bool, steps: u64, places: u32) -> u64
 }
 
 /// The size of steps / 10^places, rounded to the nearest whole number, halves up, in 128 bits.
-fn rounded_wide(is_negative: bool, steps: u128, places: u32) -> u128
-    requires small { steps < 2 ^ 76 }
-    requires places { places < 24 }
+fn round_half_up_wide(is_negative: bool, steps: u128, places: u32) -> u128
+    requires step_limit { steps < 2 ^ 76 }
+    requires place_limit { places < 24 }
     ensures { signed is_negative result ≡ nearest (signed is_negative steps) (10 ^ places) }
 {
     let unit = wide_power_of_ten(places);
@@ -92,23 +92,23 @@ fn rounded_wide(is_negative: bool, steps: u128, places: u32) -> u128
 }
 
 /// The coordinate steps / 10^places, rounded.
-fn divided(is_negative: bool, steps: u128, places: u32) -> Result<i32, NumberWhy>
-    requires small { steps < 2 ^ 76 }
-    requires places { places < 24 }
+fn divide_rounded(is_negative: bool, steps: u128, places: u32) -> Result<i32, NumberWhy>
+    requires step_limit { steps < 2 ^ 76 }
+    requires place_limit { places < 24 }
     ensures { result ≡ in_grid (nearest (signed is_negative steps) (10 ^ places)) }
 {
     let is_small = steps < 1 << 62 && places < 19;
     let size = if is_small {
-        u128::from(rounded(is_negative, steps as u64, places))
+        u128::from(round_half_up(is_negative, steps as u64, places))
     } else {
-        rounded_wide(is_negative, steps, places)
+        round_half_up_wide(is_negative, steps, places)
     };
     in_grid(is_negative, size)
 }
 
 /// The coordinate steps * 10^power.
-fn multiplied(is_negative: bool, steps: u128, power: u32) -> Result<i32, NumberWhy>
-    requires small { steps < 2 ^ 76 }
+fn multiply_exact(is_negative: bool, steps: u128, power: u32) -> Result<i32, NumberWhy>
+    requires step_limit { steps < 2 ^ 76 }
     requires power { power ≤ 6 }
     ensures { result ≡ in_grid (signed is_negative steps *ℤ pos (10 ^ power)) }
 {
@@ -117,9 +117,9 @@ fn multiplied(is_negative: bool, steps: u128, power: u32) -> Result<i32, NumberW
 }
 
 /// The coordinate steps * 10^power, rounded.
-fn moved(is_negative: bool, steps: u128, power: i32) -> Result<i32, NumberWhy>
-    requires some { 1 ≤ steps }
-    requires small { steps < 2 ^ 76 }
+fn scale_by_power(is_negative: bool, steps: u128, power: i32) -> Result<i32, NumberWhy>
+    requires positive { 1 ≤ steps }
+    requires step_limit { steps < 2 ^ 76 }
     ensures { result ≡ in_grid (times_power (signed is_negative steps) power) }
 {
     if power > HIGHEST_POWER {
@@ -129,21 +129,21 @@ fn moved(is_negative: bool, steps: u128, power: i32) -> Result<i32, NumberWhy>
         return Ok(0);
     }
     if power < 0 {
-        return divided(is_negative, steps, power.unsigned_abs());
+        return divide_rounded(is_negative, steps, power.unsigned_abs());
     }
-    multiplied(is_negative, steps, power as u32)
+    multiply_exact(is_negative, steps, power as u32)
 }
 
 /// The coordinate of a number on a grid of `scale` steps to the unit.
 pub(crate) fn coordinate_from(decimal: Decimal, scale: u32) -> Result<i32, NumberWhy>
-    requires grid { (1 ≤ scale) × (scale ≤ 65536) }
+    requires scale_range { (1 ≤ scale) × (scale ≤ 65536) }
     ensures { result ≡ coordinate_from scale decimal.is_negative decimal.digits decimal.behind
         decimal.exponent }
 {
-    if decimal.digits == 0 || decimal.behind > FAR_BEHIND {
+    if decimal.digits == 0 || decimal.behind > MAX_DECIMAL_PLACES {
         return Ok(0);
     }
     let power = decimal.exponent - decimal.behind as i32;
     let steps = u128::from(decimal.digits) * u128::from(scale);
-    moved(decimal.is_negative, steps, power)
+    scale_by_power(decimal.is_negative, steps, power)
 }

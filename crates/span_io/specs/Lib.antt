@@ -1,3 +1,4 @@
+pub mod Consumers
 pub mod Faults
 pub mod MemorySinks
 pub mod MemorySources
@@ -5,4 +6,5 @@ pub mod Plans
 pub mod Puts
 pub mod Reads
 pub mod StdForms
+pub mod Texts
 pub mod Writes

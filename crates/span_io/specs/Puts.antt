@@ -11,6 +11,6 @@ flushed_after flushed [] = flushed
 flushed_after flushed (byte ∷ more) = false
 
 -- exactly these bytes were put
-pub record Put (written new_written : Option (List ℕ)) (flushed new_flushed : Bool) (bytes : List ℕ) : Type 0 where
+pub record Appends (written new_written : Option (List ℕ)) (flushed new_flushed : Bool) (bytes : List ℕ) : Type 0 where
   pub appended : Appended written new_written bytes
   pub flushed_is : new_flushed ≡ flushed_after flushed bytes

@@ -1,5 +1,5 @@
 -- Sources and sinks over the readers and writers of the standard library.
-use Rattle.std.specs.Prelude.{ℕ, List, [], take, Bool, true, false, Option}
+use Rattle.std.specs.Prelude.{ℕ, ◌==◌, List, [], take, Bool, true, false, if◌then◌else◌, Option, Result, Ok, Err}
 use Rattle.std.specs.Io.KnownBytes.{Keeps, Appends, Consumes, IsAtEnd}
 use Rattle.span_io.specs.declared.sources.Got.{Got}
 use Rattle.span_io.specs.declared.sources.Got.TheVariants as got
@@ -17,6 +17,16 @@ pub record WriterState (W : Type 0) : Type 0 where
   pub writer : W
   pub flushed : Bool
   pub faults : ℕ
+
+-- A reader's answer to a buffer with room, as a source's answer: no bytes are the end.
+abbrev pub got_from : {E : Type 0} → Result ℕ E → Got
+got_from (Ok count) = if count == 0 then got.End else got.Bytes count
+got_from (Err error) = got.Failed
+
+-- A writer's answer to at least one byte, as a sink's answer: to take nothing is to fail.
+abbrev pub took_from : {E : Type 0} → Result ℕ E → Took
+took_from (Ok count) = if count == 0 then took.Failed else took.Bytes count
+took_from (Err error) = took.Failed
 
 -- each failure counts once, and nothing else does
 abbrev pub faults_after_read : ℕ → Got → ℕ

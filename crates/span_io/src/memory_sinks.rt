@@ -3,7 +3,7 @@ ghost use Rattle.span_io.specs.Writes.{WriteDoes, FinishDoes};
 ghost use Rattle.span_io.specs.Plans.{plan_of, next_fails};
 ghost use Rattle.span_io.specs.MemorySinks.{SinkState, write_answer, after_write, after_finish};
 
-use crate::plans::FaultPlan;
+use crate::failure_plan::FailurePlan;
 use crate::{Sink, Took};
 use geom_core::Memory;
 use std::alloc::Global;
@@ -20,7 +20,7 @@ pub struct MemorySink {
     flushed: bool,
     room: u64,
     most: u32,
-    plan: FaultPlan,
+    plan: FailurePlan,
 }
 
 impl Model for MemorySink {
@@ -35,7 +35,8 @@ impl Model for MemorySink {
     } };
 
     ghost invariant = { λ sink.
-        (vec_len sink.bytes + sink.room ≤ vec_capacity sink.bytes) × (1 ≤ sink.most) };
+        (vec_len sink.bytes + sink.room ≤ vec_capacity sink.bytes)
+        × (1 ≤ sink.most) × (sink.plan.faults < 2 ^ 64) };
 }
 
 impl MemorySink {
@@ -58,7 +59,7 @@ impl MemorySink {
             flushed: false,
             room,
             most,
-            plan: FaultPlan::of(failing),
+            plan: FailurePlan::of(failing),
         })
     }
 
@@ -81,10 +82,10 @@ impl Sink for MemorySink {
     fn write_some(&mut self, from: &[u8]) -> Took
         requires { 0 < length from.now }
 
-        ensures does { WriteDoes (Some self.old.written) (Some self.new.written)
+        ensures outcome { WriteDoes (Some self.old.written) (Some self.new.written)
             self.old.flushed self.new.flushed self.old.plan.faults self.new.plan.faults
             from.now result }
-        ensures count { self.old.plan.faults ≤ self.new.plan.faults }
+        ensures fault_range { self.new.plan.faults < 2 ^ 64 }
 
         ensures answer { result ≡ write_answer self.old from.now }
         ensures state { self.new ≡ after_write self.old from.now }
@@ -103,9 +104,9 @@ impl Sink for MemorySink {
     }
 
     fn finish(&mut self) -> bool
-        ensures does { FinishDoes (Some self.old.written) (Some self.new.written)
+        ensures outcome { FinishDoes (Some self.old.written) (Some self.new.written)
             self.old.flushed self.new.flushed self.old.plan.faults self.new.plan.faults result }
-        ensures count { self.old.plan.faults ≤ self.new.plan.faults }
+        ensures fault_range { self.new.plan.faults < 2 ^ 64 }
 
         ensures answer { result ≡ not (next_fails self.old.plan) }
         ensures state { self.new ≡ after_finish self.old }

@@ -1,9 +1,9 @@
-ghost use Rattle.std.specs.Prelude.{◌≡◌, ◌≤◌, ◌<◌, Some, length, drop};
+ghost use Rattle.std.specs.Prelude.{◌≡◌, ◌≤◌, ◌<◌, ◌^◌, Some, length, drop};
 ghost use Rattle.span_io.specs.Reads.{ReadDoes};
 ghost use Rattle.span_io.specs.Plans.{plan_of};
 ghost use Rattle.span_io.specs.MemorySources.{SourceState, read_answer, after_read};
 
-use crate::plans::FaultPlan;
+use crate::failure_plan::FailurePlan;
 use crate::{Got, Source};
 use std::marker::Model;
 
@@ -15,7 +15,7 @@ pub struct MemorySource {
     bytes: Vec<u8>,
     at: usize,
     most: u32,
-    plan: FaultPlan,
+    plan: FailurePlan,
 }
 
 impl Model for MemorySource {
@@ -27,7 +27,8 @@ impl Model for MemorySource {
       plan = source.plan;
     } };
 
-    ghost invariant = { λ source. (source.at ≤ length source.bytes.items) × (1 ≤ source.most) };
+    ghost invariant = { λ source. (source.at ≤ length source.bytes.items)
+        × (1 ≤ source.most) × (source.plan.faults < 2 ^ 64) };
 }
 
 impl MemorySource {
@@ -45,7 +46,7 @@ impl MemorySource {
             bytes,
             at: 0,
             most,
-            plan: FaultPlan::of(failing),
+            plan: FailurePlan::of(failing),
         }
     }
 }
@@ -58,9 +59,9 @@ impl Source for MemorySource {
     fn read_some(&mut self, into: &mut [u8]) -> Got
         requires { 0 < length into.old }
 
-        ensures does { ReadDoes (Some self.old.left) (Some self.new.left)
+        ensures outcome { ReadDoes (Some self.old.left) (Some self.new.left)
             self.old.plan.faults self.new.plan.faults into.new result }
-        ensures count { self.old.plan.faults ≤ self.new.plan.faults }
+        ensures fault_range { self.new.plan.faults < 2 ^ 64 }
 
         ensures answer { result ≡ read_answer self.old (length into.old) }
         ensures state { self.new ≡ after_read self.old (length into.old) }

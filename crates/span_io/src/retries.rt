@@ -7,9 +7,9 @@ use std::io::{ErrorKind, Read, Result, Write};
 const TRIES: u32 = 16;
 
 /// Reads, and reads again where a signal interrupted it.
-pub fn read_again<R: Read>(reader: &mut R, into: &mut [u8]) -> Result<usize>
+pub fn read_retrying<R: Read>(reader: &mut R, into: &mut [u8]) -> Result<usize>
     ensures bound { ReadsAtMost result into.new }
-    ensures known { ReadConsumes (R.remaining reader.old) (R.remaining reader.new)
+    ensures known_bytes { ReadConsumes (R.remaining reader.old) (R.remaining reader.new)
         result into.new }
 {
     for _ in 1..TRIES {
@@ -22,9 +22,9 @@ pub fn read_again<R: Read>(reader: &mut R, into: &mut [u8]) -> Result<usize>
 }
 
 /// Writes, and writes again where a signal interrupted it.
-pub fn write_again<W: Write>(writer: &mut W, from: &[u8]) -> Result<usize>
+pub fn write_retrying<W: Write>(writer: &mut W, from: &[u8]) -> Result<usize>
     ensures bound { WritesAtMost result from.now }
-    ensures known { WriteAppends (W.contents writer.old) (W.contents writer.new)
+    ensures known_bytes { WriteAppends (W.contents writer.old) (W.contents writer.new)
         result from.now }
 {
     for _ in 1..TRIES {
@@ -37,7 +37,7 @@ pub fn write_again<W: Write>(writer: &mut W, from: &[u8]) -> Result<usize>
 }
 
 /// Flushes, and flushes again where a signal interrupted it.
-pub fn flush_again<W: Write>(writer: &mut W) -> Result<()>
+pub fn flush_retrying<W: Write>(writer: &mut W) -> Result<()>
     ensures { Keeps (W.contents writer.old) (W.contents writer.new) }
 {
     for _ in 1..TRIES {

@@ -1,11 +1,12 @@
-ghost use Rattle.std.specs.Prelude.{◌≡◌, ◌≤◌, ◌<◌, None, false, length};
+ghost use Rattle.std.specs.Prelude.{◌≡◌, ◌<◌, ◌^◌, None, false, length};
 ghost use Rattle.span_io.specs.Writes.{WriteDoes, FinishDoes};
-ghost use Rattle.span_io.specs.StdForms.{WriterState, faults_after_write, faults_after_finish, Holds};
+ghost use Rattle.span_io.specs.StdForms.{WriterState, took_from, faults_after_write, faults_after_finish, Holds};
 ghost use Rattle.std.specs.Io.KnownBytes.{Keeps};
 
-use crate::retries::{flush_again, write_again};
+use crate::faults::count_failure;
+use crate::retries::{flush_retrying, write_retrying};
 use crate::{Sink, Took};
-use std::io::Write;
+use std::io::{Result, Write};
 use std::marker::Model;
 
 /// A sink over a writer of the standard library. As a sink it tells no bytes; each failure of the
@@ -26,6 +27,8 @@ impl<W> Model for StdSink<W> {
       flushed = sink.flushed;
       faults = sink.faults;
     } };
+
+    ghost invariant = { λ sink. sink.faults < 2 ^ 64 };
 }
 
 impl<W: Write> StdSink<W> {
@@ -41,6 +44,17 @@ impl<W: Write> StdSink<W> {
     }
 }
 
+/// Returns a sink's answer for what a writer answered to at least one byte: a write that takes nothing is a
+/// failure, and so is an error.
+pub fn took_from(written: Result<usize>) -> Took
+    ensures { result ≡ took_from written }
+{
+    match written {
+        Ok(0) | Err(_) => Took::Failed,
+        Ok(count) => Took::Bytes(count),
+    }
+}
+
 impl<W: Write> Sink for StdSink<W> {
     ghost written = { λ sink. None };
 
@@ -51,43 +65,36 @@ impl<W: Write> Sink for StdSink<W> {
     fn write_some(&mut self, from: &[u8]) -> Took
         requires { 0 < length from.now }
 
-        ensures does { WriteDoes None None self.old.flushed self.new.flushed
+        ensures outcome { WriteDoes None None self.old.flushed self.new.flushed
             self.old.faults self.new.faults from.now result }
-        ensures count { self.old.faults ≤ self.new.faults }
+        ensures fault_range { self.new.faults < 2 ^ 64 }
 
-        ensures each { self.new.faults ≡ faults_after_write self.old.faults result }
-        ensures known { Holds (W.contents self.old.writer) (W.contents self.new.writer)
+        ensures fault_count { self.new.faults ≡ faults_after_write self.old.faults result }
+        ensures known_bytes { Holds (W.contents self.old.writer) (W.contents self.new.writer)
             from.now result }
     {
-        match write_again(&mut self.writer, from) {
-            Ok(0) | Err(_) => {
-                self.faults = self.faults.saturating_add(1);
-                Took::Failed
-            }
-            Ok(count) => {
-                self.flushed = false;
-                Took::Bytes(count)
-            }
+        let took = took_from(write_retrying(&mut self.writer, from));
+        match took {
+            Took::Bytes(_) => self.flushed = false,
+            Took::Failed => count_failure(&mut self.faults),
         }
+        took
     }
 
     fn finish(&mut self) -> bool
-        ensures does { FinishDoes None None self.old.flushed self.new.flushed
+        ensures outcome { FinishDoes None None self.old.flushed self.new.flushed
             self.old.faults self.new.faults result }
-        ensures count { self.old.faults ≤ self.new.faults }
+        ensures fault_range { self.new.faults < 2 ^ 64 }
 
-        ensures each { self.new.faults ≡ faults_after_finish self.old.faults result }
-        ensures known { Keeps (W.contents self.old.writer) (W.contents self.new.writer) }
+        ensures fault_count { self.new.faults ≡ faults_after_finish self.old.faults result }
+        ensures known_bytes { Keeps (W.contents self.old.writer) (W.contents self.new.writer) }
     {
-        match flush_again(&mut self.writer) {
-            Ok(()) => {
-                self.flushed = true;
-                true
-            }
-            Err(_) => {
-                self.faults = self.faults.saturating_add(1);
-                false
-            }
+        let finished = flush_retrying(&mut self.writer).is_ok();
+        if finished {
+            self.flushed = true;
+        } else {
+            count_failure(&mut self.faults);
         }
+        finished
     }
 }

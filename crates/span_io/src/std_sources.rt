@@ -1,10 +1,11 @@
-ghost use Rattle.std.specs.Prelude.{◌≡◌, ◌≤◌, ◌<◌, None, length};
+ghost use Rattle.std.specs.Prelude.{◌≡◌, ◌<◌, ◌^◌, None, length};
 ghost use Rattle.span_io.specs.Reads.{ReadDoes};
-ghost use Rattle.span_io.specs.StdForms.{ReaderState, faults_after_read, Gave};
+ghost use Rattle.span_io.specs.StdForms.{ReaderState, got_from, faults_after_read, Gave};
 
-use crate::retries::read_again;
+use crate::faults::count_failure;
+use crate::retries::read_retrying;
 use crate::{Got, Source};
-use std::io::Read;
+use std::io::{Read, Result};
 use std::marker::Model;
 
 /// A source over a reader of the standard library. As a source it tells no bytes; each failure of the
@@ -19,6 +20,8 @@ impl<R> Model for StdSource<R> {
     ghost Value = { ReaderState R };
 
     ghost view = { λ source. record { reader = source.reader; faults = source.faults } };
+
+    ghost invariant = { λ source. source.faults < 2 ^ 64 };
 }
 
 impl<R: Read> StdSource<R> {
@@ -30,6 +33,18 @@ impl<R: Read> StdSource<R> {
     }
 }
 
+/// Returns a source's answer for what a reader answered to a buffer with room: no bytes are the end, and an
+/// error is a failure.
+pub fn got_from(read: Result<usize>) -> Got
+    ensures { result ≡ got_from read }
+{
+    match read {
+        Ok(0) => Got::End,
+        Ok(count) => Got::Bytes(count),
+        Err(_) => Got::Failed,
+    }
+}
+
 impl<R: Read> Source for StdSource<R> {
     ghost left = { λ source. None };
 
@@ -38,20 +53,17 @@ impl<R: Read> Source for StdSource<R> {
     fn read_some(&mut self, into: &mut [u8]) -> Got
         requires { 0 < length into.old }
 
-        ensures does { ReadDoes None None self.old.faults self.new.faults into.new result }
-        ensures count { self.old.faults ≤ self.new.faults }
+        ensures outcome { ReadDoes None None self.old.faults self.new.faults into.new result }
+        ensures fault_range { self.new.faults < 2 ^ 64 }
 
-        ensures each { self.new.faults ≡ faults_after_read self.old.faults result }
-        ensures known { Gave (R.remaining self.old.reader) (R.remaining self.new.reader)
+        ensures fault_count { self.new.faults ≡ faults_after_read self.old.faults result }
+        ensures known_bytes { Gave (R.remaining self.old.reader) (R.remaining self.new.reader)
             into.new result }
     {
-        match read_again(&mut self.reader, into) {
-            Ok(0) => Got::End,
-            Ok(count) => Got::Bytes(count),
-            Err(_) => {
-                self.faults = self.faults.saturating_add(1);
-                Got::Failed
-            }
+        let got = got_from(read_retrying(&mut self.reader, into));
+        if matches!(got, Got::Failed) {
+            count_failure(&mut self.faults);
         }
+        got
     }
 }

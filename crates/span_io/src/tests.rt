@@ -256,6 +256,200 @@ fn puts_into_a_writer(rt: HostRuntime) {
     }
 }
 
+// Is interrupted so many times, and then reads zeros, takes all bytes and flushes.
+#[derive(Drop)]
+struct Interrupted {
+    times: u32,
+}
+
+impl Interrupted {
+    fn step(&mut self) -> IoResult<()> {
+        if self.times == 0 {
+            return Ok(());
+        }
+        self.times -= 1;
+        Err(ErrorKind::Interrupted.into())
+    }
+}
+
+impl Read for Interrupted {
+    fn read(&mut self, buf: &mut [u8]) -> IoResult<usize> {
+        self.step()?;
+        Ok(buf.len())
+    }
+}
+
+impl Write for Interrupted {
+    fn write(&mut self, buf: &[u8]) -> IoResult<usize> {
+        self.step()?;
+        Ok(buf.len())
+    }
+
+    fn flush(&mut self) -> IoResult<()> {
+        self.step()
+    }
+}
+
+#[test]
+fn retries_an_interrupted_call(rt: HostRuntime) {
+    let cases = [
+        (0, Got::Bytes(3), Took::Bytes(5), true),
+        (15, Got::Bytes(3), Took::Bytes(5), true),
+        (16, Got::Failed, Took::Failed, false),
+    ];
+    for (times, got, took, finished) in cases {
+        let mut buffer = [0; 3];
+        let mut source = StdSource::of(Interrupted { times });
+        assert_eq!(rt; source.read_some(&mut buffer), got, "{times}");
+        let mut sink = StdSink::of(Interrupted { times });
+        assert_eq!(rt; sink.write_some(LETTERS), took, "{times}");
+        let mut unwritten = StdSink::of(Interrupted { times });
+        assert_eq!(rt; unwritten.finish(), finished, "{times}");
+    }
+}
+
+#[test]
+fn gathers_a_text(rt: HostRuntime) -> Result<(), Fail> {
+    let alloc = rt.alloc();
+    let cases: [(&str, usize, u32, &[u64], Result<&[u8], TextFault>, Got); 8] = [
+        ("in one piece", 9, 9, &[], Ok(LETTERS), Got::End),
+        ("in pieces", 9, 2, &[], Ok(LETTERS), Got::End),
+        ("as long as the limit", 5, 9, &[], Ok(LETTERS), Got::End),
+        (
+            "one byte longer",
+            4,
+            9,
+            &[],
+            Err(TextFault::TooLong),
+            Got::End,
+        ),
+        (
+            "two bytes longer",
+            3,
+            2,
+            &[],
+            Err(TextFault::TooLong),
+            Got::Bytes(1),
+        ),
+        (
+            "no byte wanted",
+            0,
+            9,
+            &[],
+            Err(TextFault::TooLong),
+            Got::Bytes(4),
+        ),
+        ("the end fails", 5, 9, &[2], Err(TextFault::Read), Got::End),
+        (
+            "the byte too many fails",
+            4,
+            4,
+            &[2],
+            Err(TextFault::Read),
+            Got::Bytes(1),
+        ),
+    ];
+    for (name, limit, most, failing, want, next) in cases {
+        assert!(rt; most > 0 && limit <= 9);
+        let mut source = MemorySource::of(LETTERS.to_vec(alloc)?, most, failing.to_vec(alloc)?);
+        match (read_text(alloc, &mut source, limit), want) {
+            (Ok(text), Ok(want)) => assert_eq!(rt; text.as_slice(), want, "{name}"),
+            (Err(fault), Err(want)) => assert_eq!(rt; fault, want, "{name}"),
+            (Ok(_), Err(_)) | (Err(_), Ok(_)) => assert!(rt; false, "{name}"),
+        }
+        assert_eq!(rt; source.read_some(&mut [0; 9]), next, "{name}");
+    }
+    Ok(())
+}
+
+// Stops at a piece with this byte, and answers how many bytes it was fed.
+#[derive(Drop)]
+struct StopsAt {
+    byte: u8,
+    fed: u32,
+}
+
+impl Consumer for StopsAt {
+    ghost use Rattle.std.specs.Prelude.{◌^◌, ⊤};
+
+    type Outcome = u32;
+
+    ghost byte_limit = { 2 ^ 16 };
+
+    ghost has_fed = { λ _ _ _. ⊤ };
+
+    ghost stops = { λ _ _ _. ⊤ };
+
+    fn feed(&mut self, piece: &[u8]) -> Fed<u32> {
+        self.fed = self.fed.saturating_add(piece.len() as u32);
+        if piece.contains(&self.byte) {
+            Fed::Stop(self.fed)
+        } else {
+            Fed::Continue
+        }
+    }
+}
+
+#[test]
+fn feeds_a_consumer(rt: HostRuntime) -> Result<(), Fail> {
+    let alloc = rt.alloc();
+    let cases: [(&str, u8, usize, &[u64], ReadEnd<u32>, Got); 6] = [
+        ("to the end", b'x', 5, &[], ReadEnd::End, Got::End),
+        (
+            "to the limit",
+            b'x',
+            2,
+            &[],
+            ReadEnd::TooLong,
+            Got::Bytes(2),
+        ),
+        (
+            "to the stop",
+            b'c',
+            5,
+            &[],
+            ReadEnd::Stopped(4),
+            Got::Bytes(1),
+        ),
+        (
+            "not past the limit",
+            b'c',
+            2,
+            &[],
+            ReadEnd::TooLong,
+            Got::Bytes(2),
+        ),
+        (
+            "to a failed read",
+            b'e',
+            5,
+            &[3],
+            ReadEnd::Failed,
+            Got::Bytes(1),
+        ),
+        (
+            "no further than the stop",
+            b'd',
+            5,
+            &[3],
+            ReadEnd::Stopped(4),
+            Got::Failed,
+        ),
+    ];
+    for (name, byte, limit, failing, want, next) in cases {
+        assert!(rt; limit <= 5);
+        let mut source = MemorySource::of(LETTERS.to_vec(alloc)?, 2, failing.to_vec(alloc)?);
+        let mut consumer = StopsAt { byte, fed: 0 };
+        assert_eq!(rt;
+            read_into(alloc, &mut source, limit, &mut consumer),
+            want,
+            "{name}"
+        );
+        assert_eq!(rt; source.read_some(&mut [0; 9]), next, "{name}");
+    }
+    Ok(())
+}
+
 #[test]
 fn crosses(rt: HostRuntime) -> Result<(), Fail> {
     let alloc = rt.alloc();
