@@ -1,5 +1,6 @@
 -- Bounds on the absolute values of sums, products and quotients.
-use Rattle.std.specs.Prelude.{◌≡◌, ◌+◌, ◌*◌, ◌<◌, ◌≤◌, ◌^◌, ◌≤ℤ◌, ℕ, ℤ, pos, negsuc, ◌-ℤ◌, ◌*ℤ◌, unsigned_abs, FitsSigned, refl}
+use Rattle.std.specs.Prelude.{◌≡◌, ◌+◌, ◌*◌, ◌<◌, ◌≤◌, ◌^◌, ◌≤ℤ◌, ℕ, ℤ, pos, negsuc, ◌-ℤ◌, ◌*ℤ◌, unsigned_abs}
+use Rattle.std.specs.Prelude.{FitsSigned, refl}
 use Rattle.std.specs.Int.{int_div_euclid}
 use Rattle.std.proofs.Common.{arith, to_z, of_z, w64}
 use Rattle.std.proofs.lemmas.Int.{ints, unsigned_abs-mul, fits_signed_from_abs, to_z-of_z}
@@ -18,7 +19,8 @@ floor_div_positive n (pos d) least p = refl
 floor_div_positive n (negsuc d) least p = absurd (omega (arith, ints))
 
 -- a quotient that is rounded down
-pub unsigned_abs-floor_div : (n d : ℤ) (least most : ℕ) → 0 < least → pos least ≤ℤ d → unsigned_abs n < most * least → unsigned_abs (floor_div n d) ≤ most
+pub unsigned_abs-floor_div : (n d : ℤ) (least most : ℕ) → 0 < least → pos least ≤ℤ d → unsigned_abs n < most * least →
+    unsigned_abs (floor_div n d) ≤ most
 unsigned_abs-floor_div n (negsuc d) least most p q r = absurd (omega (arith, ints))
 unsigned_abs-floor_div (pos n) (pos d) least most p q r =
     let wide : most * least ≤ most * d = omega (arith, mul-le most least most d (omega arith) (omega (arith, ints))) in

@@ -1,6 +1,7 @@
 mod Bounds
 mod CameraRanges
 mod DotFromEye
+mod Examples
 mod MadeCameras
 mod OffScreen
 mod OnScreen

@@ -1,16 +1,22 @@
 -- The camera that numbers make, none of which is out of its range.
-use Rattle.std.specs.Prelude.{◌≡◌, ◌+◌, ◌-◌, ◌<◌, ◌≤◌, ◌^◌, ◌||◌, ◌∷◌, [], List, ℕ, zero, suc, ℤ, pos, int_lt, ◌≤ℤ◌, unsigned_abs, Bool, true, false, Option, Some, None, cond, length, refl}
+use Rattle.std.specs.Prelude.{◌≡◌, ◌+◌, ◌-◌, ◌<◌, ◌≤◌, ◌^◌, ◌||◌, ◌∷◌, [], List, ℕ, zero, suc, ℤ, pos, int_lt, ◌≤ℤ◌}
+use Rattle.std.specs.Prelude.{unsigned_abs, Bool, true, false, Option, Some, None, cond, length, refl}
 use Rattle.std.proofs.Common.{arith, ap, sym, subst, ◌∙◌, to_z, of_z, w32, w64, lit<, lit≤, get_or}
 use Rattle.std.proofs.lemmas.Int.{ints}
 use Rattle.std.proofs.lemmas.List.{get_or-drop, get_or-replicate}
 use Rattle.geom_core.specs.Camera.{Direction}
-use Rattle.view_camera.specs.declared.cameras.RotationRow.{RotationRow}
+use Rattle.view_camera.specs.declared.rotation.RotationRow.{RotationRow}
 use Rattle.view_camera.specs.declared.cameras.Camera.TheInside.{Inside}
-use Rattle.view_camera.specs.CameraNumbers.{within, ranges, is_outside, first_outside, first_bad, number_at, direction_at, view_of_numbers}
+use Rattle.view_camera.specs.declared.number_ranges.NumberRange.{NumberRange}
+use Rattle.view_camera.specs.CameraNumbers.{within, between, ranges, is_outside, first_outside, first_bad, number_at}
+use Rattle.view_camera.specs.CameraNumbers.{direction_at, view_of_numbers}
 use Rattle.view_camera.specs.Internal.RotationRows.{IsRotationRow, direction_of}
 use Rattle.view_camera.specs.Internal.CameraFields.{IsCamera, view_of}
 use Rattle.view_camera.proofs.Bounds.{small_stays}
 use Rattle.view_camera.proofs.Ranges.{is_eye_from}
+
+abbrev no_range : NumberRange
+no_range = record { least = pos 0; greatest = pos 0 }
 
 -- a test that comes before others finds nothing, and they don't
 none_of : (b : Bool) (k : ℕ) (o : Option ℕ) → cond b (Some k) o ≡ None → (b ≡ false) × (o ≡ None)
@@ -18,7 +24,8 @@ none_of true k o h = absurd (cc)
 none_of false k o h = (refl, h)
 
 -- where no number is out of its range, each is inside its own
-each_inside : (place : ℕ) (rs : List (ℤ × ℤ)) (ns : List ℤ) (d : ℤ × ℤ) → first_outside place rs ns ≡ None → (k : ℕ) → k < length rs → k < length ns → is_outside (get_or rs k d) (get_or ns k (pos 0)) ≡ false
+each_inside : (place : ℕ) (rs : List NumberRange) (ns : List ℤ) (d : NumberRange) → first_outside place rs ns ≡ None →
+    (k : ℕ) → k < length rs → k < length ns → is_outside (get_or rs k d) (get_or ns k (pos 0)) ≡ false
 each_inside place [] ns d h k p q = absurd (omega arith)
 each_inside place (r ∷ rs) [] d h k p q = absurd (omega arith)
 each_inside place (r ∷ rs) (n ∷ ns) d h zero p q = (none_of (is_outside r n) place _ h).0
@@ -30,16 +37,17 @@ neither true b h = absurd (cc)
 neither false b h = (refl, h)
 
 -- what it is to be inside a range
-inside : (range : ℤ × ℤ) (n : ℤ) → is_outside range n ≡ false → (range.0 ≤ℤ n) × (n ≤ℤ range.1)
+inside : (range : NumberRange) (n : ℤ) → is_outside range n ≡ false → (range.least ≤ℤ n) × (n ≤ℤ range.greatest)
 inside range n h =
-    let both = neither (int_lt n range.0) (int_lt range.1 n) h in
-    let low : int_lt n range.0 ≡ false = both.0 in
-    let high : int_lt range.1 n ≡ false = both.1 in
+    let both = neither (int_lt n range.least) (int_lt range.greatest n) h in
+    let low : int_lt n range.least ≡ false = both.0 in
+    let high : int_lt range.greatest n ≡ false = both.1 in
     (omega (arith, ints), omega (arith, ints))
 
-in_range : (ns : List ℤ) → length ns ≡ 15 → first_bad ns ≡ None → (k : ℕ) → k < 15 → is_outside (get_or ranges k (pos 0, pos 0)) (number_at ns k) ≡ false
+in_range : (ns : List ℤ) → length ns ≡ 15 → first_bad ns ≡ None → (k : ℕ) → k < 15 →
+    is_outside (get_or ranges k no_range) (number_at ns k) ≡ false
 unfolding first_bad
-in_range ns e h k p = each_inside 0 ranges ns (pos 0, pos 0) h k p (omega arith)
+in_range ns e h k p = each_inside 0 ranges ns no_range h k p (omega arith)
 
 -- the ranges, number by number
 pub record InRange (ns : List ℤ) : Type 0 where
@@ -59,18 +67,18 @@ within_bound : (most : ℕ) (n : ℤ) → is_outside (within most) n ≡ false �
 within_bound most n h = let b = inside (within most) n h in omega (arith, ints, b.0, b.1)
 
 -- the entries of the rows have one range
-row_range : (k : ℕ) → k < 15 → 6 ≤ k → get_or ranges k (pos 0, pos 0) ≡ within 16384
+row_range : (k : ℕ) → k < 15 → 6 ≤ k → get_or ranges k no_range ≡ within 16384
 row_range k p q =
     let past : 6 + (k - 6) ≡ k = omega arith in
-    ap (λ i. get_or ranges i (pos 0, pos 0)) (sym past)
-    ∙ sym (get_or-drop 6 ranges (k - 6) (pos 0, pos 0))
-    ∙ get_or-replicate 9 (k - 6) (within 16384) (pos 0, pos 0) (omega arith)
+    ap (λ i. get_or ranges i no_range) (sym past)
+    ∙ sym (get_or-drop 6 ranges (k - 6) no_range)
+    ∙ get_or-replicate 9 (k - 6) (within 16384) no_range (omega arith)
 
 pub in_ranges : (ns : List ℤ) → length ns ≡ 15 → first_bad ns ≡ None → InRange ns
 in_ranges ns e h =
-    let focal = inside (pos 1, pos 4096) (number_at ns 0) (in_range ns e h 0 (lit< tt)) in
-    let near = inside (pos 16384, pos (2 ^ 34)) (number_at ns 1) (in_range ns e h 1 (lit< tt)) in
-    let tolerance = inside (pos 0, pos 65535) (number_at ns 2) (in_range ns e h 2 (lit< tt)) in
+    let focal = inside (between 1 4096) (number_at ns 0) (in_range ns e h 0 (lit< tt)) in
+    let near = inside (between 16384 (2 ^ 34)) (number_at ns 1) (in_range ns e h 1 (lit< tt)) in
+    let tolerance = inside (between 0 65535) (number_at ns 2) (in_range ns e h 2 (lit< tt)) in
     record {
       focal_low = focal.0;
       focal_high = focal.1;
@@ -81,7 +89,8 @@ in_ranges ns e h =
       eye_x = within_bound (2 ^ 24) (number_at ns 3) (in_range ns e h 3 (lit< tt));
       eye_y = within_bound (2 ^ 24) (number_at ns 4) (in_range ns e h 4 (lit< tt));
       eye_z = within_bound (2 ^ 24) (number_at ns 5) (in_range ns e h 5 (lit< tt));
-      rows = λ k p q. within_bound 16384 (number_at ns k) (subst (λ (r : ℤ × ℤ). is_outside r (number_at ns k) ≡ false) (row_range k p q) (in_range ns e h k p));
+      rows = λ k p q. within_bound 16384 (number_at ns k)
+          (subst (λ (r : NumberRange). is_outside r (number_at ns k) ≡ false) (row_range k p q) (in_range ns e h k p));
     }
 
 -- the fields, as the code has them
@@ -108,7 +117,9 @@ natural_is n most p q r = ap unsigned_abs (small_stays n most (omega (arith, int
 coordinate_is : (n : ℤ) → unsigned_abs n ≤ 2 ^ 24 → coordinate n ≡ n
 coordinate_is n p = omega (arith, ints)
 
-pub view_of-made : (ns : List ℤ) (right down forward : RotationRow) → InRange ns → direction_of right ≡ direction_at ns 6 → direction_of down ≡ direction_at ns 9 → direction_of forward ≡ direction_at ns 12 → view_of (made ns right down forward) ≡ view_of_numbers ns
+pub view_of-made : (ns : List ℤ) (right down forward : RotationRow) → InRange ns →
+    direction_of right ≡ direction_at ns 6 → direction_of down ≡ direction_at ns 9 →
+    direction_of forward ≡ direction_at ns 12 → view_of (made ns right down forward) ≡ view_of_numbers ns
 unfolding view_of_numbers
 view_of-made ns right down forward r e f g =
     let focal = natural_is (number_at ns 0) 4096 (omega (arith, ints)) r.focal_high (lit< tt) in
@@ -120,7 +131,8 @@ view_of-made ns right down forward r e f g =
     rw (focal, near, tolerance, x, y, z, e, f, g) refl
 
 -- the entries of a row that begins at a place
-row_is : (ns : List ℤ) (row : RotationRow) (place : ℕ) → InRange ns → 6 ≤ place → place ≤ 12 → direction_of row ≡ direction_at ns place → IsRotationRow row
+row_is : (ns : List ℤ) (row : RotationRow) (place : ℕ) → InRange ns → 6 ≤ place → place ≤ 12 →
+    direction_of row ≡ direction_at ns place → IsRotationRow row
 row_is ns row place r p q e =
     let x : row.x ≡ number_at ns place = ap (λ (d : Direction). d.x) e in
     let y : row.y ≡ number_at ns (place + 1) = ap (λ (d : Direction). d.y) e in
@@ -131,7 +143,9 @@ row_is ns row place r p q e =
       z = rw z (r.rows (place + 2) (omega arith) (omega arith));
     }
 
-pub IsCamera-made : (ns : List ℤ) (right down forward : RotationRow) → InRange ns → direction_of right ≡ direction_at ns 6 → direction_of down ≡ direction_at ns 9 → direction_of forward ≡ direction_at ns 12 → IsCamera (made ns right down forward)
+pub IsCamera-made : (ns : List ℤ) (right down forward : RotationRow) → InRange ns →
+    direction_of right ≡ direction_at ns 6 → direction_of down ≡ direction_at ns 9 →
+    direction_of forward ≡ direction_at ns 12 → IsCamera (made ns right down forward)
 IsCamera-made ns right down forward r e f g =
     let focal = natural_is (number_at ns 0) 4096 (omega (arith, ints)) r.focal_high (lit< tt) in
     let near = natural_is (number_at ns 1) (2 ^ 34) (omega (arith, ints)) r.near_high (lit< tt) in

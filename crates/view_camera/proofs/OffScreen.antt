@@ -11,23 +11,28 @@ use Rattle.geom_core.specs.Winding.{winding}
 use Rattle.geom_core.proofs.WindingLaws.{winding-above, winding-below, winding-left, winding-right}
 use Rattle.view_camera.specs.Internal.Projections.{AreOffOneSide}
 
-filter-range_none : (p : ℕ → Bool) (a n : ℕ) → ((k : ℕ) → k < n → p (a + k) ≡ false) → filter p (range_with_len a n) ≡ []
+filter-range_none : (p : ℕ → Bool) (a n : ℕ) → ((k : ℕ) → k < n → p (a + k) ≡ false) →
+    filter p (range_with_len a n) ≡ []
 filter-range_none p a zero none = refl
 filter-range_none p a (suc n) none =
     let here : p a ≡ false = ap p (omega arith) ∙ none 0 (omega arith) in
     rw here (filter-range_none p (a + 1) n (λ k h. ap p (omega arith) ∙ none (k + 1) (omega arith)))
 
-not_covered : (a b c : Spot) (size : Size) (pixel : ℕ) → winding a b c (centre_x size pixel) (centre_y size pixel) ≡ pos 0 → covers a b c size pixel ≡ false
+not_covered : (a b c : Spot) (size : Size) (pixel : ℕ) →
+    winding a b c (centre_x size pixel) (centre_y size pixel) ≡ pos 0 → covers a b c size pixel ≡ false
 unfolding covers
 not_covered a b c size pixel e = ap (λ w. not (int_eq w (pos 0))) e
 
-words_of-none : (a b c : Spot) (cluster place : ℕ) (size : Size) → ((k : ℕ) → k < size.width * size.height → winding a b c (centre_x size k) (centre_y size k) ≡ pos 0) → words_of a b c cluster place size ≡ []
+words_of-none : (a b c : Spot) (cluster place : ℕ) (size : Size) →
+    ((k : ℕ) → k < size.width * size.height → winding a b c (centre_x size k) (centre_y size k) ≡ pos 0) →
+    words_of a b c cluster place size ≡ []
 words_of-none a b c cluster place size none =
     ap (map (λ (pixel : ℕ). (pixel, word_at a b c cluster place size pixel)))
     (filter-range_none (covers a b c size) 0 (size.width * size.height)
     (λ k h. ap (covers a b c size) (zero-add k) ∙ not_covered a b c size k (none k h)))
 
-pub words_of-off_columns : (a b c : Spot) (cluster place : ℕ) (size : Size) → 0 < size.width → AreOffOneSide size.width a.x b.x c.x → words_of a b c cluster place size ≡ []
+pub words_of-off_columns : (a b c : Spot) (cluster place : ℕ) (size : Size) → 0 < size.width →
+    AreOffOneSide size.width a.x b.x c.x → words_of a b c cluster place size ≡ []
 words_of-off_columns a b c cluster place size wide (inl before) =
     words_of-none a b c cluster place size (λ k h.
     let column : k % size.width < size.width = omega arith in
@@ -42,7 +47,8 @@ row_of_pixel size k wide h =
     let below : k < size.height * size.width = omega (arith, mul_comm size.width size.height) in
     (div-lt_iff_lt-mul wide).1 below
 
-pub words_of-off_rows : (a b c : Spot) (cluster place : ℕ) (size : Size) → 0 < size.width → AreOffOneSide size.height a.y b.y c.y → words_of a b c cluster place size ≡ []
+pub words_of-off_rows : (a b c : Spot) (cluster place : ℕ) (size : Size) → 0 < size.width →
+    AreOffOneSide size.height a.y b.y c.y → words_of a b c cluster place size ≡ []
 words_of-off_rows a b c cluster place size wide (inl before) =
     words_of-none a b c cluster place size (λ k h.
     let row = row_of_pixel size k wide h in

@@ -1,5 +1,5 @@
 -- What it is to be in a range, number by number.
-use Rattle.std.specs.Prelude.{◌≡◌, ◌≤◌, ℕ, ℤ, Bool, true, false, ◌&&◌, nat_le, unsigned_abs, IsTrue}
+use Rattle.std.specs.Prelude.{◌≤◌, ℕ, ℤ, Bool, true, false, ◌&&◌, nat_le, unsigned_abs, IsTrue}
 use Rattle.std.proofs.Common.{arith}
 use Rattle.std.proofs.lemmas.Bool.Decides.{nat_tests}
 use Rattle.geom_core.specs.declared.limits.TheConstants.{MAX_COORDINATE, MAX_EYE, MAX_SCREEN_COORDINATE, MAX_SIDE}
@@ -25,7 +25,8 @@ at_most n most h = grind (arith, nat_tests)
 
 within : (most : ℕ) (p : Pt) → IsTrue (is_point_within most p) → AreWithin most p
 within most p h =
-    let each = all_three (nat_le (unsigned_abs p.x) most) (nat_le (unsigned_abs p.y) most) (nat_le (unsigned_abs p.z) most) h in
+    let each = all_three (nat_le (unsigned_abs p.x) most) (nat_le (unsigned_abs p.y) most)
+    (nat_le (unsigned_abs p.z) most) h in
     record {
       x = at_most (unsigned_abs p.x) most each.0;
       y = at_most (unsigned_abs p.y) most each.1;

@@ -1,5 +1,6 @@
 -- The spot of a point, from what the camera's steps give.
-use Rattle.std.specs.Prelude.{◌≡◌, ◌+◌, ◌*◌, ◌≤◌, ◌^◌, ℕ, ℤ, pos, ◌+ℤ◌, ◌≤ℤ◌, unsigned_abs, int_lt, Bool, true, false, Some, None, refl}
+use Rattle.std.specs.Prelude.{◌≡◌, ◌+◌, ◌*◌, ◌≤◌, ◌^◌, ℕ, ℤ, pos, ◌+ℤ◌, ◌≤ℤ◌, unsigned_abs, int_lt, Bool, true, false}
+use Rattle.std.specs.Prelude.{Some, None, refl}
 use Rattle.std.proofs.Common.{arith, ◌∙◌, to_z, of_z, w64, lit<}
 use Rattle.std.proofs.lemmas.Int.{ints, to_z_pos}
 use Rattle.geom_core.specs.declared.points.Pt.{Pt}
@@ -7,19 +8,21 @@ use Rattle.geom_core.specs.declared.screens.Size.{Size}
 use Rattle.geom_core.specs.declared.screens.Spot.{Spot}
 use Rattle.geom_core.specs.Camera.{View, along, on_screen, reversed_depth, spot_of}
 use Rattle.view_camera.specs.ViewPoints.{spot_at}
-use Rattle.view_camera.specs.declared.cameras.ViewPoint.{ViewPoint}
+use Rattle.view_camera.specs.declared.view_points.ViewPoint.{ViewPoint}
 use Rattle.geom_core.specs.Limits.{IsDepth, IsSpot}
 use Rattle.view_camera.proofs.Bounds.{small_stays}
 use Rattle.view_camera.proofs.Ranges.{is_spot_from}
 
 -- the test of the near depth, as the code has it
-pub depth_test : (depth : ℤ) (near : ℕ) (b : Bool) → unsigned_abs depth ≤ 876173328384 → near ≤ 2 ^ 34 → int_lt (to_z w64 (of_z w64 depth)) (to_z w64 near) ≡ b → int_lt depth (pos near) ≡ b
+pub depth_test : (depth : ℤ) (near : ℕ) (b : Bool) → unsigned_abs depth ≤ 876173328384 → near ≤ 2 ^ 34 →
+    int_lt (to_z w64 (of_z w64 depth)) (to_z w64 near) ≡ b → int_lt depth (pos near) ≡ b
 depth_test depth near b p q h =
     let left = small_stays depth 876173328384 p (lit< tt) in
     let right = to_z_pos w64 near (omega arith) in
     rw (left, right) at h
 
-pub spot_of-near : (view : View) (size : Size) (p : Pt) (depth : ℤ) → depth ≡ along view.forward view.eye p → int_lt depth (pos view.near) ≡ true → spot_of view size p ≡ None
+pub spot_of-near : (view : View) (size : Size) (p : Pt) (depth : ℤ) → depth ≡ along view.forward view.eye p →
+    int_lt depth (pos view.near) ≡ true → spot_of view size p ≡ None
 unfolding spot_of
 spot_of-near view size p depth d h = let t = rw d at h in rw t refl
 
@@ -39,13 +42,17 @@ pub record ViewSteps (view : View) (p : Pt) (right down depth : ℤ) : Type 0 wh
   pub depth_bound : unsigned_abs depth ≤ 876173328384
   pub far : int_lt (to_z w64 (of_z w64 depth)) (to_z w64 view.near) ≡ false
 
-pub spot_of-view : (view : View) (size : Size) (p : Pt) (right down depth : ℤ) → ViewSteps view p right down depth → spot_of view size p ≡ Some (spot_at view size (computed right down depth))
+pub spot_of-view : (view : View) (size : Size) (p : Pt) (right down depth : ℤ) → ViewSteps view p right down depth →
+    spot_of view size p ≡ Some (spot_at view size (computed right down depth))
 unfolding spot_of spot_at
 spot_of-view view size p right down depth t =
     let test = depth_test depth view.near false t.depth_bound t.near t.far in
-    let right_stays : to_z w64 (of_z w64 right) ≡ along view.right view.eye p = small_stays right 876173328384 t.right_bound (lit< tt) ∙ t.right_is in
-    let down_stays : to_z w64 (of_z w64 down) ≡ along view.down view.eye p = small_stays down 876173328384 t.down_bound (lit< tt) ∙ t.down_is in
-    let depth_stays : to_z w64 (of_z w64 depth) ≡ along view.forward view.eye p = small_stays depth 876173328384 t.depth_bound (lit< tt) ∙ t.depth_is in
+    let right_stays : to_z w64 (of_z w64 right) ≡ along view.right view.eye p = small_stays right 876173328384
+    t.right_bound (lit< tt) ∙ t.right_is in
+    let down_stays : to_z w64 (of_z w64 down) ≡ along view.down view.eye p = small_stays down 876173328384 t.down_bound
+    (lit< tt) ∙ t.down_is in
+    let depth_stays : to_z w64 (of_z w64 depth) ≡ along view.forward view.eye p = small_stays depth 876173328384
+    t.depth_bound (lit< tt) ∙ t.depth_is in
     let beyond = rw t.depth_is at test in
     rw (right_stays, down_stays, depth_stays, beyond) refl
 
@@ -53,7 +60,8 @@ spot_of-view view size p right down depth t =
 abbrev from_edge : ℤ → ℤ → ℤ
 from_edge middle offset = to_z w64 (of_z w64 (to_z w64 (of_z w64 middle) +ℤ to_z w64 (of_z w64 offset)))
 
-from_edge_is : (side : ℕ) (middle offset : ℤ) → middle ≡ pos (8 * side) → side ≤ 512 → unsigned_abs offset + 4096 ≤ 2 ^ 42 → from_edge middle offset ≡ pos (8 * side) +ℤ offset
+from_edge_is : (side : ℕ) (middle offset : ℤ) → middle ≡ pos (8 * side) → side ≤ 512 →
+    unsigned_abs offset + 4096 ≤ 2 ^ 42 → from_edge middle offset ≡ pos (8 * side) +ℤ offset
 from_edge_is side middle offset e p q = omega (arith, ints)
 
 -- two middles and offsets of a picture's size
@@ -88,7 +96,8 @@ pub record Projected (view : View) (at : ViewPoint) (offset_x offset_y : ℤ) (z
 
 pub spot_at-projected : (view : View) (size : Size) (at : ViewPoint) (middle_x offset_x middle_y offset_y : ℤ) (z : ℕ) →
     Centred size middle_x offset_x middle_y offset_y → Projected view at offset_x offset_y z →
-    ◌≡◌ {A = Spot} (record { x = from_edge middle_x offset_x; y = from_edge middle_y offset_y; z = z }) (spot_at view size at)
+    ◌≡◌ {A = Spot} (record { x = from_edge middle_x offset_x; y = from_edge middle_y offset_y; z = z })
+    (spot_at view size at)
 unfolding spot_at
 spot_at-projected view size at middle_x offset_x middle_y offset_y z e s =
     let right = small_stays at.right 876173328384 s.right (lit< tt) in

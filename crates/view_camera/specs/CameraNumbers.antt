@@ -1,26 +1,32 @@
 -- The fifteen numbers of a camera, the range of each, and the camera that they describe.
-use Rattle.std.specs.Prelude.{◌+◌, ◌||◌, ℕ, ℤ, pos, neg_ℤ, int_lt, unsigned_abs, Bool, List, [], ◌∷◌, ◌++◌, replicate, Option, Some, None, if◌then◌else◌}
+use Rattle.std.specs.Prelude.{◌+◌, ◌||◌, ℕ, ℤ, pos, neg_ℤ, int_lt, unsigned_abs, Bool, List, [], ◌∷◌, ◌++◌, replicate}
+use Rattle.std.specs.Prelude.{Option, Some, None, if◌then◌else◌}
 use Rattle.std.specs.List.{slice_index_or}
-use Rattle.geom_core.specs.declared.limits.TheConstants.{MAX_FOCAL, MIN_NEAR, MAX_NEAR, MAX_TOLERANCE, MAX_EYE, ROTATION_ONE}
+use Rattle.geom_core.specs.declared.limits.TheConstants.{MAX_FOCAL, MIN_NEAR, MAX_NEAR, MAX_TOLERANCE, MAX_EYE}
+use Rattle.geom_core.specs.declared.limits.TheConstants.{ROTATION_ONE}
 use Rattle.geom_core.specs.Camera.{Direction, View}
+use Rattle.view_camera.specs.declared.number_ranges.NumberRange.{NumberRange}
 
 -- from -most to most
-abbrev pub within : ℕ → ℤ × ℤ
-within most = (neg_ℤ (pos most), pos most)
+abbrev pub within : ℕ → NumberRange
+within most = record { least = neg_ℤ (pos most); greatest = pos most }
+
+abbrev pub between : ℕ → ℕ → NumberRange
+between least greatest = record { least = pos least; greatest = pos greatest }
 
 -- the least and the greatest value of each number: the focal length, the near-plane distance, the tolerance,
 -- the eye's x, y and z, and the entries of the rows right, down and forward
-abbrev pub ranges : List (ℤ × ℤ)
+abbrev pub ranges : List NumberRange
 ranges =
-    (pos 1, pos MAX_FOCAL) ∷ (pos MIN_NEAR, pos MAX_NEAR) ∷ (pos 0, pos MAX_TOLERANCE) ∷
+    between 1 MAX_FOCAL ∷ between MIN_NEAR MAX_NEAR ∷ between 0 MAX_TOLERANCE ∷
     (replicate 3 (within MAX_EYE) ++ replicate 9 (within ROTATION_ONE))
 
 -- the number is below the range or above it
-abbrev pub is_outside : ℤ × ℤ → ℤ → Bool
-is_outside range n = int_lt n range.0 || int_lt range.1 n
+abbrev pub is_outside : NumberRange → ℤ → Bool
+is_outside range n = int_lt n range.least || int_lt range.greatest n
 
 -- the index of the first number that is outside the range at its index, if the first number has the index `place`
-abbrev pub first_outside : ℕ → List (ℤ × ℤ) → List ℤ → Option ℕ
+abbrev pub first_outside : ℕ → List NumberRange → List ℤ → Option ℕ
 first_outside place [] ns = None
 first_outside place (range ∷ rest) [] = None
 first_outside place (range ∷ rest) (n ∷ ns) =

@@ -4,7 +4,7 @@ use Rattle.geom_core.specs.declared.limits.TheConstants.{SUBPIXELS, MAX_DOT}
 use Rattle.geom_core.specs.declared.screens.Spot.{Spot}
 use Rattle.geom_core.specs.declared.screens.Size.{Size}
 use Rattle.geom_core.specs.Camera.{View, on_screen, reversed_depth}
-use Rattle.view_camera.specs.declared.cameras.ViewPoint.{ViewPoint}
+use Rattle.view_camera.specs.declared.view_points.ViewPoint.{ViewPoint}
 
 -- the spot of a view-space point that is no nearer than the near plane
 unfoldable pub spot_at : View → Size → ViewPoint → Spot

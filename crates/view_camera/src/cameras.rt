@@ -1,68 +1,24 @@
-ghost use Rattle.std.specs.Prelude.{◌≡◌, ◌+◌, ◌*◌, ◌≤◌, ◌<◌, ◌*ℤ◌, ◌-ℤ◌, ℕ, true, [], unsigned_abs};
-ghost use Rattle.std.specs.Prelude.{IfSome, option_map};
-ghost use Rattle.geom_core.specs.declared.limits.TheConstants.{ROTATION_ONE, MAX_EYE, MAX_COORDINATE, MAX_DOT};
-ghost use Rattle.geom_core.specs.Camera.{along, spot_of};
+ghost use Rattle.std.specs.Prelude.{◌≡◌, ◌<◌, ◌≤◌, ℕ, true, [], unsigned_abs, IfSome, option_map};
+ghost use Rattle.geom_core.specs.declared.limits.TheConstants.{ROTATION_ONE};
+ghost use Rattle.geom_core.specs.Camera.{spot_of};
 ghost use Rattle.geom_core.specs.Coverage.{words_of};
-ghost use Rattle.geom_core.specs.Limits.{IsEye, IsGridCoordinate, IsGridPoint, IsPicture, IsSpot};
-ghost use Rattle.view_camera.specs.CameraNumbers.{first_bad, is_outside, view_of_numbers, number_at};
-ghost use Rattle.view_camera.specs.CameraNumbers.{direction_at};
-ghost use Rattle.view_camera.specs.Internal.RotationRows.{IsRotationRow, direction_of};
+ghost use Rattle.geom_core.specs.Limits.{IsGridPoint, IsPicture, IsSpot};
+ghost use Rattle.view_camera.specs.CameraNumbers.{first_bad, view_of_numbers, number_at, direction_at};
+ghost use Rattle.view_camera.specs.Internal.RotationRows.{direction_of};
 ghost use Rattle.view_camera.specs.ViewPoints.{spot_at, IsBeyondNear};
 
-use crate::projections::{ViewAxis, all_off_one_side, half_side, project_axis, reversed_depth};
-use geom_core::limits::{MAX_EYE, MAX_FOCAL, MAX_NEAR, MAX_TOLERANCE, MIN_NEAR, ROTATION_ONE};
+use crate::number_ranges::{CAMERA_RANGES, first_out_of_range};
+use crate::projections::{all_off_one_side, half_side, project_axis, reversed_depth};
+use crate::rotation::{RotationRow, dot_from_eye};
+use crate::view_points::ViewPoint;
 use geom_core::{Lens, Pt, Size, Spot};
 use std::marker::Model;
-
-/// The range of the eye's position on each axis, in grid steps.
-const EYE_RANGE: (i64, i64) = (-(MAX_EYE as i64), MAX_EYE as i64);
-
-/// The range of an entry of the rotation, in 1/`ROTATION_ONE`.
-const ROTATION_RANGE: (i64, i64) = (-(ROTATION_ONE as i64), ROTATION_ONE as i64);
-
-/// The least and the greatest value of each of a camera's numbers, in the order of the numbers.
-const RANGES: [(i64, i64); 15] = [
-    (1, MAX_FOCAL as i64),
-    (MIN_NEAR as i64, MAX_NEAR as i64),
-    (0, MAX_TOLERANCE as i64),
-    EYE_RANGE,
-    EYE_RANGE,
-    EYE_RANGE,
-    ROTATION_RANGE,
-    ROTATION_RANGE,
-    ROTATION_RANGE,
-    ROTATION_RANGE,
-    ROTATION_RANGE,
-    ROTATION_RANGE,
-    ROTATION_RANGE,
-    ROTATION_RANGE,
-    ROTATION_RANGE,
-];
 
 /// The error for numbers that describe no camera.
 #[derive(Clone, Copy, Debug, PartialEq, Eq)]
 pub struct BadCamera {
     /// The index, from 0, of the first number that is out of its range.
     pub field: u8,
-}
-
-/// A row of the rotation from the mesh's axes to the camera's axes: a direction, in 1/`ROTATION_ONE`.
-#[derive(Clone, Copy, Debug, PartialEq, Eq)]
-struct RotationRow {
-    x: i32,
-    y: i32,
-    z: i32,
-}
-
-/// A view-space point: its offset from the eye in the camera's axes, in grid steps times `ROTATION_ONE`.
-#[derive(Clone, Copy, Debug, PartialEq, Eq)]
-pub struct ViewPoint {
-    /// The distance to the right of the eye.
-    pub right: i64,
-    /// The distance below the eye.
-    pub down: i64,
-    /// The distance ahead of the eye.
-    pub depth: i64,
 }
 
 /// A pinhole camera over whole numbers: position, rotation, focal length, near plane and error tolerance.
@@ -93,28 +49,6 @@ impl Model for Camera {
     ghost inverse = { fields_of };
 }
 
-impl ViewPoint {
-    /// Returns the point's horizontal axis: offset to the right and distance ahead.
-    fn horizontal(&self) -> ViewAxis
-        ensures { result ≡ record { offset = self.now.right; depth = self.now.depth } }
-    {
-        ViewAxis {
-            offset: self.right,
-            depth: self.depth,
-        }
-    }
-
-    /// Returns the point's vertical axis: offset down and distance ahead.
-    fn vertical(&self) -> ViewAxis
-        ensures { result ≡ record { offset = self.now.down; depth = self.now.depth } }
-    {
-        ViewAxis {
-            offset: self.down,
-            depth: self.depth,
-        }
-    }
-}
-
 impl Camera {
     /// Returns the camera that fifteen numbers describe:
     ///
@@ -125,12 +59,13 @@ impl Camera {
     /// - the rotation's rows right, down and forward, each entry from `-ROTATION_ONE` to `ROTATION_ONE`.
     ///
     /// If a number is out of its range, the error says which number is the first.
+    #[tactic(auto, unfolding(crate::specs::CameraNumbers::first_bad))]
     pub fn new(numbers: [i64; 15]) -> Result<Camera, BadCamera>
         ensures camera { first_bad numbers ≡ None → result ≡ Ok (view_of_numbers numbers) }
         ensures bad_camera { IfSome (first_bad numbers)
             (λ field. result ≡ Err (record { field = field })) }
     {
-        match first_out_of_range(&numbers) {
+        match first_out_of_range(&CAMERA_RANGES, &numbers) {
             Some(field) => Err(BadCamera { field }),
             None => Ok(from_numbers(&numbers)),
         }
@@ -149,6 +84,18 @@ impl Camera {
             focal: self.focal,
             tolerance: self.tolerance,
         }
+    }
+
+    /// Returns the screen position and depth of a mesh point in a picture of this size, if the point is no
+    /// nearer than the near plane.
+    pub fn screen(&self, size: Size, p: Pt) -> Option<Spot>
+        requires picture { IsPicture size }
+        requires grid_point { IsGridPoint p }
+        ensures spot { result ≡ spot_of self.now size p }
+        ensures spot_range { IfSome result IsSpot }
+    {
+        let at = self.to_view(p)?;
+        Some(self.project(size, at))
     }
 
     /// Returns the view-space point of a mesh point, if the point is no nearer than the near plane.
@@ -199,26 +146,6 @@ impl Camera {
     }
 }
 
-/// Returns the index of the first number that is out of its range.
-fn first_out_of_range(numbers: &[i64; 15]) -> Option<u8>
-    ensures { result ≡ first_bad numbers.now }
-{
-    for (field, number) in numbers.iter().enumerate() {
-        if is_outside(RANGES[field], *number) {
-            return Some(field as u8);
-        }
-    }
-    None
-}
-
-/// Whether a number is below the range or above it.
-fn is_outside(range: (i64, i64), number: i64) -> bool
-    ensures { result ≡ is_outside range number }
-{
-    let (least, most) = range;
-    number < least || most < number
-}
-
 /// Returns the camera of numbers that are all in range.
 fn from_numbers(numbers: &[i64; 15]) -> Camera
     requires { first_bad numbers.now ≡ None }
@@ -253,32 +180,6 @@ fn row_at(numbers: &[i64; 15], place: usize) -> RotationRow
     }
 }
 
-/// Returns the dot product of the row with the offset of `p` from the eye, in grid steps times
-/// `ROTATION_ONE`.
-fn dot_from_eye(row: RotationRow, eye: Pt, p: Pt) -> i64
-    requires rotation_row { IsRotationRow row }
-    requires eye { IsEye eye }
-    requires grid_point { IsGridPoint p }
-    ensures dot { result ≡ along (direction_of row) eye p }
-    ensures dot_limit { unsigned_abs result ≤ MAX_DOT }
-{
-    axis_product(row.x, eye.x, p.x)
-        + axis_product(row.y, eye.y, p.y)
-        + axis_product(row.z, eye.z, p.z)
-}
-
-/// Returns the product of one axis: the entry times the offset.
-fn axis_product(entry: i32, from: i32, to: i32) -> i64
-    requires entry { unsigned_abs entry ≤ ROTATION_ONE }
-    requires from { unsigned_abs from ≤ MAX_EYE }
-    requires to { IsGridCoordinate to }
-    ensures product { result ≡ entry *ℤ (to -ℤ from) }
-    ensures product_limit { unsigned_abs result ≤ ROTATION_ONE * (MAX_EYE + MAX_COORDINATE) }
-{
-    let away = i64::from(to) - i64::from(from);
-    i64::from(entry) * away
-}
-
 #[cfg(test)]
 mod tests {
     use super::*;
@@ -287,6 +188,16 @@ mod tests {
     const FROM_ABOVE: [i64; 15] = [
         4, 33_554_432, 0, 0, 4_096, 0, 16_384, 0, 0, 0, 0, 16_384, 0, -16_384, 0,
     ];
+
+    fn is_shared<T: Send + Sync>(_value: &T) -> bool {
+        true
+    }
+
+    #[test]
+    fn cameras_can_be_shared(rt: HostRuntime) {
+        let camera = Camera::new(FROM_ABOVE).expect(&rt, "a camera");
+        assert!(rt; is_shared(&camera));
+    }
 
     fn spot(x: i64, y: i64, z: u32) -> Option<Spot> {
         Some(Spot { x, y, z })
@@ -300,14 +211,6 @@ mod tests {
             y: y.into(),
             z: z.into(),
         }
-    }
-
-    fn screen(camera: &Camera, size: Size, p: Pt) -> Option<Spot>
-        requires picture { IsPicture size }
-        requires grid_point { IsGridPoint p }
-    {
-        let at = camera.to_view(p)?;
-        Some(camera.project(size, at))
     }
 
     #[test]
@@ -331,7 +234,7 @@ mod tests {
             ("nearer than it", (0, 2049, 0), None),
         ];
         for (name, (x, y, z), want) in cases {
-            let seen = screen(&camera, size, point(x, y, z));
+            let seen = camera.screen(size, point(x, y, z));
             assert_eq!(rt; seen, want, "{name}");
         }
     }
@@ -391,6 +294,6 @@ mod tests {
         let mut numbers = FROM_ABOVE;
         numbers[1] = 17_179_869_184;
         let camera = Camera::new(numbers).expect(&rt, "a camera");
-        assert_eq!(rt; screen(&camera, size, point(-1024, 0, 1024)), None);
+        assert_eq!(rt; camera.screen(size, point(-1024, 0, 1024)), None);
     }
 }

@@ -6,6 +6,11 @@
 #![tactic(auto)]
 
 mod cameras;
+mod number_ranges;
 mod projections;
+mod rotation;
+mod view_points;
 
-pub use cameras::{BadCamera, Camera, ViewPoint};
+pub use cameras::{BadCamera, Camera};
+pub use number_ranges::{CAMERA_RANGES, NumberRange, first_out_of_range};
+pub use view_points::ViewPoint;

@@ -2,7 +2,7 @@
 use Rattle.std.specs.Prelude.{◌≤◌, unsigned_abs}
 use Rattle.geom_core.specs.declared.limits.TheConstants.{ROTATION_ONE}
 use Rattle.geom_core.specs.Camera.{Direction}
-use Rattle.view_camera.specs.declared.cameras.RotationRow.{RotationRow}
+use Rattle.view_camera.specs.declared.rotation.RotationRow.{RotationRow}
 
 -- each entry is from -1 to 1, in 1/ROTATION_ONE
 pub record IsRotationRow (row : RotationRow) : Type 0 where

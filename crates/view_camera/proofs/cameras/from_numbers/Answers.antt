@@ -35,8 +35,10 @@ row_at-requires-3-clause-entries c = (in_ranges c.args.numbers.now c.told-number
 
 pub invariant_of-result : goal.invariant_of-result
 invariant_of-result c =
-    IsCamera-made c.args.numbers.now c.row_at.result c.row_at-2.result c.row_at-3.result (in_ranges c.args.numbers.now c.told-numbers c.requires) c.row_at.ensures c.row_at-2.ensures c.row_at-3.ensures
+    IsCamera-made c.args.numbers.now c.row_at.result c.row_at-2.result c.row_at-3.result
+    (in_ranges c.args.numbers.now c.told-numbers c.requires) c.row_at.ensures c.row_at-2.ensures c.row_at-3.ensures
 
 pub returns : goal.returns
 returns c =
-    view_of-made c.args.numbers.now c.row_at.result c.row_at-2.result c.row_at-3.result (in_ranges c.args.numbers.now c.told-numbers c.requires) c.row_at.ensures c.row_at-2.ensures c.row_at-3.ensures
+    view_of-made c.args.numbers.now c.row_at.result c.row_at-2.result c.row_at-3.result
+    (in_ranges c.args.numbers.now c.told-numbers c.requires) c.row_at.ensures c.row_at-2.ensures c.row_at-3.ensures

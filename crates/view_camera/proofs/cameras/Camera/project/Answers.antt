@@ -17,7 +17,8 @@ pub returns-clause-spot : goal.returns-clause-spot
 returns-clause-spot c =
     let sides = sides c.args.size c.requires.picture in
     rw (← c.self.view_is) (spot_at-projected (view_of c.self.inside) c.args.size c.args.at
-    c.half_side.result c.project_axis.result c.half_side-2.result c.project_axis-2.result c.reversed_depth.result (record {
+    c.half_side.result c.project_axis.result c.half_side-2.result c.project_axis-2.result c.reversed_depth.result
+    (record {
       width = sides.width;
       height = sides.height;
       middle_x_is = c.half_side.ensures;
