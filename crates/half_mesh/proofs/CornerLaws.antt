@@ -7,11 +7,11 @@ use Rattle.std.specs.List.{enumerate_from}
 use Rattle.geom_core.specs.declared.points.Pt.{Pt}
 use Rattle.geom_core.specs.declared.triangles.Tri.{Tri}
 use Rattle.geom_core.specs.EdgeSum.{same_point}
-use Rattle.half_mesh.specs.declared.marks.Mark.{Mark}
+use Rattle.half_mesh.specs.declared.incidences.Incidence.{Incidence}
 use Rattle.half_mesh.specs.Around.{has_corner, triangles_around}
 use Rattle.half_mesh.specs.Corners.{corner_at, corners_at, corners_of}
-use Rattle.half_mesh.specs.Marks.{is_at, at_point}
-use Rattle.half_mesh.proofs.PointLaws.{true≢false, same_point-from, same_point-refl}
+use Rattle.half_mesh.specs.Incidences.{is_at, at_point}
+use Rattle.geom_core.proofs.PointLaws.{true≢false, same_point-from, same_point-refl}
 
 enumerate_from-push : {X : Type 0} (n : ℕ) (xs : List X) (x : X) →
     enumerate_from n (xs ++ x ∷ []) ≡ enumerate_from n xs ++ (n + length xs, x) ∷ []
@@ -51,8 +51,8 @@ once k false true false ba ca cb h1 h2 h3 h4 h5 h6 = rw (h2 refl refl, and-false
 once k false false true ba ca cb h1 h2 h3 h4 h5 h6 = rw (and-false (not ba), h4 refl refl, h6 refl refl) refl
 once k false false false ba ca cb h1 h2 h3 h4 h5 h6 = rw (and-false (not ba), and-false (not (ca || cb))) refl
 
-abbrev whats : List (Mark ℕ) → List ℕ
-whats marks = map (λ (mark : Mark ℕ). mark.what) marks
+abbrev whats : List (Incidence ℕ) → List ℕ
+whats incidences = map (λ (incidence : Incidence ℕ). incidence.what) incidences
 
 corner_there : (p : Pt) (k : ℕ) (q : Pt) (repeats : Bool) → whats (at_point p (corner_at k q repeats)) ≡
     (cond (not repeats && same_point q p) (k ∷ []) [])
@@ -70,9 +70,9 @@ at_point-corners_at p k t =
     ap whats (filter-append (is_at p) (corner_at k t.a false ++ corner_at k t.b (same_point t.b t.a)) (corner_at k t.c (same_point t.c t.a || same_point t.c t.b)) ∙
     ap (λ l. l ++ at_point p (corner_at k t.c (same_point t.c t.a || same_point t.c t.b)))
     (filter-append (is_at p) (corner_at k t.a false) (corner_at k t.b (same_point t.b t.a)))) ∙
-    map-append (λ (mark : Mark ℕ). mark.what) (at_point p (corner_at k t.a false) ++ at_point p (corner_at k t.b (same_point t.b t.a))) (at_point p (corner_at k t.c (same_point t.c t.a || same_point t.c t.b))) ∙
+    map-append (λ (incidence : Incidence ℕ). incidence.what) (at_point p (corner_at k t.a false) ++ at_point p (corner_at k t.b (same_point t.b t.a))) (at_point p (corner_at k t.c (same_point t.c t.a || same_point t.c t.b))) ∙
     ap (λ l. l ++ whats (at_point p (corner_at k t.c (same_point t.c t.a || same_point t.c t.b))))
-    (map-append (λ (mark : Mark ℕ). mark.what) (at_point p (corner_at k t.a false)) (at_point p (corner_at k t.b (same_point t.b t.a)))) ∙
+    (map-append (λ (incidence : Incidence ℕ). incidence.what) (at_point p (corner_at k t.a false)) (at_point p (corner_at k t.b (same_point t.b t.a)))) ∙
     rw (corner_there p k t.a false, corner_there p k t.b (same_point t.b t.a), corner_there p k t.c (same_point t.c t.a || same_point t.c t.b))
     (once k (same_point t.a p) (same_point t.b p) (same_point t.c p) (same_point t.b t.a) (same_point t.c t.a) (same_point t.c t.b)
     (λ x y. both t.b t.a y x) (λ x y. apart t.b t.a y x) (λ x z. both t.c t.a z x) (λ x z. apart t.c t.a z x)
@@ -89,14 +89,14 @@ at_point-corners_at p k t =
         by false is = is
         by true is = absurd (true≢false (sym h ∙ ap (λ v. same_point v p) (same_point-from q r is) ∙ e))
 
--- the marks at p name the triangles with corner p
+-- the incidences at p name the triangles with corner p
 pub around_from : (p : Pt) (n : ℕ) (tris : List Tri) →
     whats (at_point p (flat_map (λ ((k, t) : ℕ × Tri). corners_at k t) (enumerate_from n tris))) ≡
     map (λ ((k, t) : ℕ × Tri). k) (filter (λ ((k, t) : ℕ × Tri). has_corner p t) (enumerate_from n tris))
 around_from p n [] = refl
 around_from p n (t ∷ tris) =
     ap whats (filter-append (is_at p) (corners_at n t) (flat_map (λ ((k, u) : ℕ × Tri). corners_at k u) (enumerate_from (n + 1) tris))) ∙
-    map-append (λ (mark : Mark ℕ). mark.what) (at_point p (corners_at n t)) (at_point p (flat_map (λ ((k, u) : ℕ × Tri). corners_at k u) (enumerate_from (n + 1) tris))) ∙
+    map-append (λ (incidence : Incidence ℕ). incidence.what) (at_point p (corners_at n t)) (at_point p (flat_map (λ ((k, u) : ℕ × Tri). corners_at k u) (enumerate_from (n + 1) tris))) ∙
     rw (at_point-corners_at p n t, around_from p (n + 1) tris) (by (has_corner p t))
   where
     by : (b : Bool) → (cond b (n ∷ []) []) ++ map (λ ((k, u) : ℕ × Tri). k) (filter (λ ((k, u) : ℕ × Tri). has_corner p u) (enumerate_from (n + 1) tris)) ≡
@@ -105,5 +105,5 @@ around_from p n (t ∷ tris) =
     by false = refl
 
 pub triangles_around-is : (p : Pt) (tris : List Tri) →
-    map (λ (mark : Mark ℕ). mark.what) (at_point p (corners_of tris)) ≡ triangles_around tris p
+    map (λ (incidence : Incidence ℕ). incidence.what) (at_point p (corners_of tris)) ≡ triangles_around tris p
 triangles_around-is p tris = around_from p 0 tris

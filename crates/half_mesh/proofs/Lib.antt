@@ -1,8 +1,7 @@
 pub mod CornerLaws
+pub mod EdgeLaws
+pub mod IncidenceLaws
 pub mod ListLaws
-pub mod MarkLaws
-pub mod PointLaws
 pub mod RimLaws
-pub mod SpokeLaws
 pub mod TableLaws
-pub mod Walks
+pub mod TermLaws

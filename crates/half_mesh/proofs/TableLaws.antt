@@ -6,48 +6,35 @@ use Rattle.std.proofs.lemmas.List.Elements.{All-head, All-tail}
 use Rattle.std.proofs.lemmas.Bool.{cases_lt}
 use Rattle.std.proofs.lemmas.Cmp.{then_total, on_total, tied_itself}
 use Rattle.std.specs.Cmp.{IsTotalOrder}
-use Rattle.std.specs.List.{HoldsAt}
+use Rattle.std.specs.List.{AllPairs, HoldsAt}
 use Rattle.std.specs.List.Sorted.{IsSorted, IsBinarySearchResult, IsNonDecreasingBy, IsPartitionPoint}
 use Rattle.std.specs.Option.{IfSome, IfNone, is_some}
 use Rattle.std.specs.Result.{result_ok}
 use Rattle.std.specs.Ordering.{is_lt, is_eq, int_eq, ordering_then, ordering_reverse, ordering_index}
 use Rattle.std.specs.declared.cmp.Ordering.{Ordering}
 use Rattle.std.specs.declared.cmp.Ordering.TheVariants.{Less, Equal, Greater}
+use Rattle.geom_core.specs.declared.limits.TheConstants.{MAX_SUMMED_TRIANGLES}
 use Rattle.geom_core.specs.declared.points.Pt.{Pt}
 use Rattle.geom_core.specs.declared.triangles.Tri.{Tri}
 use Rattle.geom_core.specs.EdgeSum.{same_point, edge_count, edge_sum, is_rim_edge, OnRim}
-use Rattle.geom_core.specs.Order.{point_cmp}
+use Rattle.geom_core.specs.Order.{is_before, point_cmp}
 use Rattle.geom_core.proofs.EdgeSumLaws.{edge_sum-turned, edge_sum-same, is_rim_edge-turned}
 use Rattle.half_mesh.specs.declared.edges.Edge.{Edge}
-use Rattle.half_mesh.specs.declared.marks.Mark.{Mark}
+use Rattle.half_mesh.specs.declared.incidences.Incidence.{Incidence}
 use Rattle.half_mesh.specs.Around.{triangles_around}
 use Rattle.half_mesh.specs.Corners.{corners_of}
-use Rattle.half_mesh.specs.Marks.{is_before, at_point}
+use Rattle.half_mesh.specs.Incidences.{at_point}
 use Rattle.half_mesh.specs.Order.{edge_cmp}
-use Rattle.half_mesh.specs.Rim.{IsRimEdge, IsAscending, IsRimOf, sum_on}
-use Rattle.half_mesh.specs.Tables.{ends_of}
+use Rattle.half_mesh.specs.Rim.{IsRimEdge, IsAscending, IsRimOf, sum_on, ends_of}
+use Rattle.half_mesh.specs.Terms.{edge_of}
 use Rattle.half_mesh.proofs.CornerLaws.{triangles_around-is}
-use Rattle.half_mesh.proofs.PointLaws.{true≢false, point_cmp-total, same_point-is, same_point-from, before-from_is_before, is_before-itself, same_point-before, same_point-after, placed}
-use Rattle.half_mesh.proofs.PointLaws.Placed.{Before, Same, After}
-use Rattle.half_mesh.proofs.RimLaws.{edge_of, rim_edge-some, rim_edge-from}
-use Rattle.half_mesh.proofs.SpokeLaws.{edge_count-bound}
+use Rattle.geom_core.proofs.PointLaws.{true≢false, point_cmp-total, same_point-is, same_point-from, before-from_is_before, is_before-itself, same_point-before, same_point-after, placed}
+use Rattle.geom_core.proofs.PointLaws.Placed.{Before, Same, After}
+use Rattle.half_mesh.proofs.EdgeLaws.{edge_cmp-total, edge_from_equal, point_from_equal, zero_unless, rim_edge-some, rim_edge-from, edge_count-bound}
 
-pub edge_cmp-total : IsTotalOrder edge_cmp
-edge_cmp-total = then_total (on_total (λ (e : Edge). e.u) point_cmp-total) (on_total (λ (e : Edge). e.v) point_cmp-total)
-
-point_from_equal : (p q : Pt) → point_cmp p q ≡ Equal → p ≡ q
-point_from_equal p q same = same_point-from p q (same_point-is p q ∙ ap is_eq same)
-
-edge_from_equal : (e f : Edge) → edge_cmp e f ≡ Equal → e ≡ f
-edge_from_equal e f same = by (point_cmp e.u f.u) (point_cmp e.v f.v) refl refl same
-  where
-    same_parts : (u v i j : Pt) → u ≡ i → v ≡ j → edge_of u v ≡ edge_of i j
-    same_parts u v i j h k = cc
-
-    by : (a b : Ordering) → point_cmp e.u f.u ≡ a → point_cmp e.v f.v ≡ b → ordering_then a b ≡ Equal → e ≡ f
-    by Less b h k tie = absurd (cc tie)
-    by Greater b h k tie = absurd (cc tie)
-    by Equal b h k tie = same_parts e.u e.v f.u f.v (point_from_equal e.u f.u h) (point_from_equal e.v f.v (k ∙ tie))
+pub sorted_points : (points : List Pt) → AllPairs (λ p q. point_cmp p q ≡ Less) points → IsSorted point_cmp points
+sorted_points points ascending k d low high =
+    ap is_lt (point_cmp-total.antisymm (get_or points (k + 1) d) (get_or points k d) ∙ ap ordering_reverse (ascending k (k + 1) d (omega arith) high))
 
 pub sorted_from_ascending : (edges : List Edge) → IsAscending edges → IsSorted edge_cmp edges
 sorted_from_ascending edges ascending k d low high =
@@ -77,86 +64,49 @@ place_holds points p (Some i) within found absent =
 place_holds points p None within found absent =
     (λ h. absurd (true≢false (sym h)), λ (k, in_bounds, here). absurd (absent k p in_bounds (ap (λ q. point_cmp q p) here ∙ tied_itself point_cmp-total p)))
 
--- ---- the rim's points
-
-u_among : (edges : List Edge) (e : Edge) → Contains edges e → Contains (ends_of edges) e.u
-u_among [] e (k, in_bounds, here) = absurd (omega arith)
-u_among (f ∷ fs) e (zero, in_bounds, here) = (0, omega arith, ap (λ (g : Edge). g.u) here)
-u_among (f ∷ fs) e (suc k, in_bounds, here) =
-    let rest = u_among fs e (k, omega arith, here) in
-    (suc (suc rest.0), omega (arith, rest.1), rest.2)
-
-v_among : (edges : List Edge) (e : Edge) → Contains edges e → Contains (ends_of edges) e.v
-v_among [] e (k, in_bounds, here) = absurd (omega arith)
-v_among (f ∷ fs) e (zero, in_bounds, here) = (1, omega arith, ap (λ (g : Edge). g.v) here)
-v_among (f ∷ fs) e (suc k, in_bounds, here) =
-    let rest = v_among fs e (k, omega arith, here) in
-    (suc (suc rest.0), omega (arith, rest.1), rest.2)
-
-on_rim-from : (tris : List Tri) (edges : List Edge) (p : Pt) → All (IsRimEdge tris) edges →
-    Contains (ends_of edges) p → OnRim tris p
-on_rim-from tris [] p all (k, in_bounds, here) = absurd (omega arith)
-on_rim-from tris (f ∷ fs) p all (zero, in_bounds, here) =
-    (f.v, ap (λ u. is_rim_edge tris u f.v) (sym here) ∙ (All-head (IsRimEdge tris) f fs all).1)
-on_rim-from tris (f ∷ fs) p all (suc zero, in_bounds, here) =
-    (f.u, ap (λ v. is_rim_edge tris v f.u) (sym here) ∙ is_rim_edge-turned tris f.u f.v ∙ (All-head (IsRimEdge tris) f fs all).1)
-on_rim-from tris (f ∷ fs) p all (suc (suc k), in_bounds, here) =
-    on_rim-from tris fs p (All-tail (IsRimEdge tris) f fs all) (k, omega arith, here)
-
-pub ends_on_rim : (tris : List Tri) (edges : List Edge) (sums : List ℤ) → IsRimOf tris edges sums → (p : Pt) →
-    Contains (ends_of edges) p ↔ OnRim tris p
-ends_on_rim tris edges sums rim p = (on_rim-from tris edges p rim.sound, back)
-  where
-    back : OnRim tris p → Contains (ends_of edges) p
-    back (q, some) = elim (placed p q) [
-      | Before h ↦ u_among edges (edge_of p q) (rim.complete (edge_of p q) (before-from_is_before p q h, some))
-      | Same h ↦ absurd (rim_edge-some tris p q some (ap (λ v. edge_sum tris p v) (sym h) ∙ edge_sum-same tris p))
-      | After h ↦ v_among edges (edge_of q p) (rim.complete (edge_of q p) (before-from_is_before q p h, is_rim_edge-turned tris p q ∙ some))
-    ]
-
 -- ---- the sums
 
 pub edge_sum-bound : (tris : List Tri) (u v : Pt) → same_point u v ≡ false → same_point v u ≡ false →
-    length tris ≤ 2 ^ 30 → unsigned_abs (edge_sum tris u v) ≤ 2 ^ 30
+    length tris ≤ MAX_SUMMED_TRIANGLES → unsigned_abs (edge_sum tris u v) ≤ MAX_SUMMED_TRIANGLES
 unfolding edge_sum
 edge_sum-bound tris u v apart back few =
     let out = edge_count-bound tris u v apart in
     let into = edge_count-bound tris v u back in
     by (edge_count tris u v) (edge_count tris v u) (omega arith) (omega arith)
   where
-    by : (m n : ℕ) → m ≤ 2 ^ 30 → n ≤ 2 ^ 30 → unsigned_abs (pos m -ℤ pos n) ≤ 2 ^ 30
+    by : (m n : ℕ) → m ≤ MAX_SUMMED_TRIANGLES → n ≤ MAX_SUMMED_TRIANGLES → unsigned_abs (pos m -ℤ pos n) ≤ MAX_SUMMED_TRIANGLES
     by m n m_few n_few = omega (arith, ints)
 
-sum_found : (tris : List Tri) (edges : List Edge) (sums : List ℤ) (u v : Pt) (place : ℕ) (z : ℤ) →
-    IsRimOf tris edges sums → length tris ≤ 2 ^ 30 → place < length edges →
-    HoldsAt (λ e. edge_cmp e (edge_of u v) ≡ Equal) edges place → z ≡ get_or sums place z →
-    (z ≡ edge_sum tris u v) × (is_before u v ≡ true) × (unsigned_abs z ≤ 2 ^ 30)
-sum_found tris edges sums u v place z rim few in_bounds found read =
+sum_found : (tris : List Tri) (edges : List Edge) (sums : List ℤ) (u v : Pt) (place : ℕ) (z d : ℤ) →
+    IsRimOf tris edges sums → length tris ≤ MAX_SUMMED_TRIANGLES → place < length edges →
+    HoldsAt (λ e. edge_cmp e (edge_of u v) ≡ Equal) edges place → z ≡ get_or sums place d →
+    (z ≡ edge_sum tris u v) × (is_before u v ≡ true) × (unsigned_abs z ≤ MAX_SUMMED_TRIANGLES)
+sum_found tris edges sums u v place z d rim few in_bounds found read =
     let e : Edge = get_or edges place (edge_of u v) in
     let here : e ≡ edge_of u v = edge_from_equal e (edge_of u v) (found (edge_of u v)) in
     let wanted : IsRimEdge tris e = rim.sound place (edge_of u v) in_bounds in
     let less : point_cmp u v ≡ Less = ap (λ (f : Edge). point_cmp f.u f.v) (sym here) ∙ wanted.0 in
     let before : is_before u v ≡ true = ap is_lt less in
-    let sum : z ≡ edge_sum tris u v = read ∙ ap (λ l. get_or l place z) rim.summed ∙ at edges place in_bounds ∙ ap (sum_on tris) here in
-    (sum, before, subst (λ k. unsigned_abs k ≤ 2 ^ 30) (sym sum) (edge_sum-bound tris u v (same_point-before u v before) (same_point-after v u before) few))
+    let sum : z ≡ edge_sum tris u v = read ∙ ap (λ l. get_or l place d) rim.summed ∙ at edges place in_bounds ∙ ap (sum_on tris) here in
+    (sum, before, subst (λ k. unsigned_abs k ≤ MAX_SUMMED_TRIANGLES) (sym sum) (edge_sum-bound tris u v (same_point-before u v before) (same_point-after v u before) few))
   where
-    at : (edges : List Edge) (place : ℕ) → place < length edges → get_or (map (sum_on tris) edges) place z ≡ sum_on tris (get_or edges place (edge_of u v))
+    at : (edges : List Edge) (place : ℕ) → place < length edges → get_or (map (sum_on tris) edges) place d ≡ sum_on tris (get_or edges place (edge_of u v))
     at [] place in_bounds = absurd (omega arith)
     at (f ∷ fs) zero in_bounds = refl
     at (f ∷ fs) (suc k) in_bounds = at fs k (omega arith)
 
 -- the same as it is answered, in 32 bits
-pub sum_there : (tris : List Tri) (edges : List Edge) (sums : List ℤ) (u v : Pt) (place : ℕ) (z : ℤ) →
-    IsRimOf tris edges sums → length tris ≤ 2 ^ 30 → place < length edges →
-    HoldsAt (λ e. edge_cmp e (edge_of u v) ≡ Equal) edges place → z ≡ get_or sums place z →
+pub sum_there : (tris : List Tri) (edges : List Edge) (sums : List ℤ) (u v : Pt) (place : ℕ) (z d : ℤ) →
+    IsRimOf tris edges sums → length tris ≤ MAX_SUMMED_TRIANGLES → place < length edges →
+    HoldsAt (λ e. edge_cmp e (edge_of u v) ≡ Equal) edges place → z ≡ get_or sums place d →
     (to_z w32 (of_z w32 z) ≡ (cond (is_before u v) (edge_sum tris u v) (pos 0))) ×
-    (unsigned_abs (to_z w32 (of_z w32 z)) ≤ 2 ^ 30)
-sum_there tris edges sums u v place z rim few in_bounds found read =
-    let there = sum_found tris edges sums u v place z rim few in_bounds found read in
+    (unsigned_abs (to_z w32 (of_z w32 z)) ≤ MAX_SUMMED_TRIANGLES)
+sum_there tris edges sums u v place z d rim few in_bounds found read =
+    let there = sum_found tris edges sums u v place z d rim few in_bounds found read in
     let cast : to_z w32 (of_z w32 z) ≡ z = small z there.2 in
-    (rw there.1 (cast ∙ there.0), subst (λ k. unsigned_abs k ≤ 2 ^ 30) (sym cast) there.2)
+    (rw there.1 (cast ∙ there.0), subst (λ k. unsigned_abs k ≤ MAX_SUMMED_TRIANGLES) (sym cast) there.2)
   where
-    small : (z : ℤ) → unsigned_abs z ≤ 2 ^ 30 → to_z w32 (of_z w32 z) ≡ z
+    small : (z : ℤ) → unsigned_abs z ≤ MAX_SUMMED_TRIANGLES → to_z w32 (of_z w32 z) ≡ z
     small z bound = omega (arith, ints)
 
 pub sum_absent : (tris : List Tri) (edges : List Edge) (sums : List ℤ) (u v : Pt) → IsRimOf tris edges sums →
@@ -167,28 +117,18 @@ sum_absent tris edges sums u v rim absent = by (is_before u v) refl
     none before true some =
         let at = rim.complete (edge_of u v) (before-from_is_before u v before, some) in
         absurd (absent at.0 (edge_of u v) at.1 (ap (λ e. edge_cmp e (edge_of u v)) at.2 ∙ tied_itself edge_cmp-total (edge_of u v)))
-    none before false cancels = zero_from (edge_sum tris u v) (λ some. true≢false (sym (rim_edge-from tris u v some) ∙ cancels))
-      where
-        zero_from : (k : ℤ) → (k ≢ pos 0 → ⊥) → pos 0 ≡ k
-        zero_from k h = by (int_eq k (pos 0)) refl
-          where
-            by : (b : Bool) → int_eq k (pos 0) ≡ b → pos 0 ≡ k
-            by true is = is_zero k is
-              where
-                is_zero : (k : ℤ) → int_eq k (pos 0) ≡ true → pos 0 ≡ k
-                is_zero k is = grind (arith, ints)
-            by false is = absurd (h (λ z. true≢false (sym (ap (λ m. int_eq m (pos 0)) z) ∙ is)))
+    none before false cancels = sym (zero_unless (edge_sum tris u v) (λ some. true≢false (sym (rim_edge-from tris u v some) ∙ cancels)))
 
     by : (b : Bool) → is_before u v ≡ b → pos 0 ≡ (cond (is_before u v) (edge_sum tris u v) (pos 0))
     by true before = rw before (none before (is_rim_edge tris u v) refl)
     by false upto = rw upto refl
 
-turned_cast : (s : ℤ) → unsigned_abs s ≤ 2 ^ 30 → to_z w32 (of_z w32 (pos 0 -ℤ to_z w32 (of_z w32 s))) ≡ neg_ℤ s
+turned_cast : (s : ℤ) → unsigned_abs s ≤ MAX_SUMMED_TRIANGLES → to_z w32 (of_z w32 (pos 0 -ℤ to_z w32 (of_z w32 s))) ≡ neg_ℤ s
 turned_cast s bound = omega (arith, ints)
 
 -- the sum the other way round
 pub sum_turned : (tris : List Tri) (u v : Pt) (s : ℤ) → is_before u v ≡ false →
-    s ≡ (cond (is_before v u) (edge_sum tris v u) (pos 0)) → unsigned_abs s ≤ 2 ^ 30 →
+    s ≡ (cond (is_before v u) (edge_sum tris v u) (pos 0)) → unsigned_abs s ≤ MAX_SUMMED_TRIANGLES →
     to_z w32 (of_z w32 (pos 0 -ℤ to_z w32 (of_z w32 s))) ≡ edge_sum tris u v
 sum_turned tris u v s upto is bound = turned_cast s bound ∙ elim (placed u v) [
   | Before h ↦ absurd (true≢false (sym h ∙ upto))
@@ -203,14 +143,14 @@ sum_turned tris u v s upto is bound = turned_cast s bound ∙ elim (placed u v) 
 
 -- ---- the triangles round a point
 
-pub around_is : (tris : List Tri) (corners : List (Mark ℕ)) (numbers : List ℕ) (p : Pt) (from to : ℕ) →
-    numbers ≡ map (λ (corner : Mark ℕ). corner.what) corners →
+pub around_is : (tris : List Tri) (corners : List (Incidence ℕ)) (numbers : List ℕ) (p : Pt) (from to : ℕ) →
+    numbers ≡ map (λ (corner : Incidence ℕ). corner.what) corners →
     take (to - from) (drop from corners) ≡ at_point p corners →
     at_point p corners ≡ at_point p (corners_of tris) →
     take (to - from) (drop from numbers) ≡ triangles_around tris p
 around_is tris corners numbers p from to numbered group groups =
     ap (λ l. take (to - from) (drop from l)) numbered ∙
-    ap (take (to - from)) (drop-map (λ (corner : Mark ℕ). corner.what) from corners) ∙
-    take-map (λ (corner : Mark ℕ). corner.what) (to - from) (drop from corners) ∙
-    ap (map (λ (corner : Mark ℕ). corner.what)) (group ∙ groups) ∙
+    ap (take (to - from)) (drop-map (λ (corner : Incidence ℕ). corner.what) from corners) ∙
+    take-map (λ (corner : Incidence ℕ). corner.what) (to - from) (drop from corners) ∙
+    ap (map (λ (corner : Incidence ℕ). corner.what)) (group ∙ groups) ∙
     triangles_around-is p tris

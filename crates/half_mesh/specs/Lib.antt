@@ -1,7 +1,7 @@
 pub mod Around
 pub mod Corners
-pub mod Marks
+pub mod Incidences
 pub mod Order
 pub mod Rim
-pub mod Spokes
+pub mod Terms
 pub mod Tables

@@ -1,23 +1,26 @@
-//! The edges of a list of triangles: which of them don't cancel, and which triangles lie round a point.
+//! The edges of a list of triangles: their sums, the rim (the boundary edges), and the triangles round a point.
 //!
-//! An edge's sum is the number of times that the triangles run along it one way less the number of times
-//! that they run the other way; an edge is on the rim where that isn't 0. The definitions stand in
+//! An edge's sum is the number of times that the triangles run along it from its first point to its second, less
+//! the number of times that they run back; an edge is on the rim if its sum isn't 0. The definitions are in
 //! `geom_core`.
 //!
-//! The table is made by one stable sort of the corners by point. The triangles round a point are then a
-//! run of that list, and the edges from a point to later ones are found among them, point by point.
+//! A rim is made by a sort of the triangles' edges, each with 1 or -1, and one walk that adds up equal edges.
+//! Rims of lists add up to the rim of the joined list, so each triangle's edges are sorted once. A table of edges
+//! has a rim, and the corners in one stable sort by point: the triangles round a point are a run of that list.
+//!
+//! On `Memory` what was given is unchanged, and nothing is kept.
 #![tactic(auto)]
 
 mod corners;
 mod edges;
-mod marks;
-mod points;
+mod incidences;
 mod rims;
-mod searches;
-mod spokes;
+mod search;
 mod tables;
+mod terms;
 #[cfg(test)]
 mod tests;
 
 pub use edges::{Edge, edges_are_ordered};
+pub use rims::Rim;
 pub use tables::EdgeTable;

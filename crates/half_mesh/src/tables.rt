@@ -1,20 +1,17 @@
-ghost use Rattle.std.specs.Prelude.{◌≡◌, ◌≤◌, ◌^◌, ◌↔◌, pos, IfOk, IsTrue, List, length, map, Contains, if◌then◌else◌};
+ghost use Rattle.std.specs.Prelude.{◌≡◌, ◌≤◌, ◌↔◌, pos, IfOk, IsTrue, List, length, map, Contains, if◌then◌else◌};
 ghost use Rattle.std.specs.Prelude.{unsigned_abs};
-ghost use Rattle.std.specs.List.Sorted.{IsSorted, IsPermutation};
+ghost use Rattle.geom_core.specs.declared.limits.TheConstants.{MAX_SUMMED_TRIANGLES};
 ghost use Rattle.geom_core.specs.EdgeSum.{edge_sum, OnRim};
-ghost use Rattle.geom_core.specs.Order.{point_cmp};
 ghost use Rattle.half_mesh.specs.declared.edges.Edge.{Edge};
 ghost use Rattle.half_mesh.specs.Around.{triangles_around};
-ghost use Rattle.half_mesh.specs.Marks.{is_before};
+ghost use Rattle.geom_core.specs.Order.{is_before};
 ghost use Rattle.half_mesh.specs.Rim.{IsAscending, IsRimEdge};
-ghost use Rattle.half_mesh.specs.Tables.{ends_of};
 
 use crate::corners::sorted_corners;
 use crate::edges::Edge;
-use crate::marks::{Mark, range_at};
-use crate::points::precedes;
-use crate::rims::{Rim, rim_of};
-use crate::searches::place_of;
+use crate::incidences::{Incidence, range_at};
+use crate::rims::Rim;
+use crate::search::position_of;
 use geom_core::{Memory, Pt, Tri};
 use std::alloc::Global;
 use std::marker::Model;
@@ -23,7 +20,7 @@ use std::marker::Model;
 #[derive(Drop)]
 pub struct EdgeTable<'a> {
     tris: &'a [Tri],
-    corners: Vec<Mark<u32>>,
+    corners: Vec<Incidence<u32>>,
     numbers: Vec<u32>,
     rim: Rim,
     rim_points: Vec<Pt>,
@@ -39,18 +36,18 @@ impl<'a> Model for EdgeTable<'a> {
     ghost view = { λ t. t.tris.now };
 
     ghost invariant = { λ t. IsTableOf t.tris.now t.corners.items t.numbers.items
-        t.rim.edges.items t.rim.sums.items t.rim_points.items };
+        t.rim.edges t.rim.sums t.rim_points.items };
 }
 
 impl<'a> EdgeTable<'a> {
     /// The table of these triangles.
     pub fn of(alloc: Global, tris: &'a [Tri]) -> Result<EdgeTable<'a>, Memory>
-        requires { length tris.now ≤ 2 ^ 30 }
+        requires triangle_limit { length tris.now ≤ MAX_SUMMED_TRIANGLES }
         ensures { IfOk result (λ table. table ≡ tris.now) }
     {
         let corners = sorted_corners(alloc, tris)?;
-        let rim = rim_of(alloc, tris, &corners)?;
-        let rim_points = points_of_edges(alloc, &rim.edges)?;
+        let rim = Rim::of(alloc, tris)?;
+        let rim_points = rim.points(alloc)?;
         let numbers = numbers_of(alloc, &corners)?;
         Ok(EdgeTable {
             tris,
@@ -65,7 +62,7 @@ impl<'a> EdgeTable<'a> {
     pub fn sum_of(&self, u: Pt, v: Pt) -> i32
         ensures { result ≡ edge_sum self.now u v }
     {
-        if precedes(u, v) {
+        if u < v {
             self.sum_ahead(u, v)
         } else {
             -self.sum_ahead(v, u)
@@ -74,11 +71,11 @@ impl<'a> EdgeTable<'a> {
 
     /// The sum from `u` to `v` where `u` comes first, and else 0.
     fn sum_ahead(&self, u: Pt, v: Pt) -> i32
-        ensures value { result ≡ (if is_before u v then edge_sum self.now u v else pos 0) }
-        ensures bound { unsigned_abs result ≤ 2 ^ 30 }
+        ensures sum { result ≡ (if is_before u v then edge_sum self.now u v else pos 0) }
+        ensures sum_range { unsigned_abs result ≤ MAX_SUMMED_TRIANGLES }
     {
-        match place_of(&self.rim.edges, &Edge { u, v }) {
-            Some(place) => self.rim.sums[place],
+        match position_of(self.rim.edges(), &Edge { u, v }) {
+            Some(place) => self.rim.sums()[place],
             None => 0,
         }
     }
@@ -88,14 +85,14 @@ impl<'a> EdgeTable<'a> {
         ensures ascending { IsAscending result.now }
         ensures exact { (e : Edge) → Contains result.now e ↔ IsRimEdge self.now e }
     {
-        self.rim.edges.as_slice()
+        self.rim.edges()
     }
 
     /// Whether some edge at `p` has a sum other than 0.
     pub fn on_rim(&self, p: Pt) -> bool
         ensures { IsTrue result ↔ OnRim self.now p }
     {
-        place_of(&self.rim_points, &p).is_some()
+        position_of(&self.rim_points, &p).is_some()
     }
 
     /// The triangles with corner `p`, by their places in the list, ascending.
@@ -108,31 +105,9 @@ impl<'a> EdgeTable<'a> {
 }
 
 /// The numbers of the triangles at the corners, in the corners' order.
-fn numbers_of(alloc: Global, corners: &[Mark<u32>]) -> Result<Vec<u32>, Memory>
+fn numbers_of(alloc: Global, corners: &[Incidence<u32>]) -> Result<Vec<u32>, Memory>
     ensures { IfOk result (λ numbers. numbers.items ≡ map (λ corner. corner.what) corners.now) }
 {
     let numbers = corners.iter().map(|corner| corner.what).collect(alloc)?;
     Ok(numbers)
-}
-
-/// The points of the edges, ascending.
-fn points_of_edges(alloc: Global, edges: &[Edge]) -> Result<Vec<Pt>, Memory>
-    ensures sorted { IfOk result (λ points. IsSorted point_cmp points.items) }
-    ensures all { IfOk result (λ points. IsPermutation (ends_of edges.now) points.items) }
-{
-    let mut points = list_ends(alloc, edges)?;
-    points.sort_unstable();
-    Ok(points)
-}
-
-/// Both points of each edge.
-fn list_ends(alloc: Global, edges: &[Edge]) -> Result<Vec<Pt>, Memory>
-    ensures { IfOk result (λ points. points.items ≡ ends_of edges.now) }
-{
-    let mut points = Vec::new(alloc);
-    for edge in edges {
-        points.push(edge.u)?;
-        points.push(edge.v)?;
-    }
-    Ok(points)
 }

@@ -1,14 +1,11 @@
 -- What the reading of a source came to.
-use Rattle.std.specs.Prelude.{◌≡◌, ℕ, ◌+◌, List, [], drop, Option, Some, None, option_map, Result, Ok, Err}
+use Rattle.std.specs.Prelude.{◌≡◌, ℕ, ◌+◌, List, drop, Option, Some, None, option_map, Result, Ok, Err}
 use Rattle.geom_core.specs.declared.triangles.Tri.{Tri}
 use Rattle.span_io.specs.Faults.{Rose}
+use Rattle.span_io.specs.Reads.{ReadToEnd}
 use Rattle.obj_source.specs.declared.faults.ObjFault.{ObjFault}
 use Rattle.obj_source.specs.declared.faults.ObjFault.TheVariants.{Line, TooMany, TooLong, Empty, Read, Memory}
 use Rattle.obj_source.specs.Mesh.{mesh, longest}
-
--- no byte is left
-abbrev pub ReadToEnd : Option (List ℕ) → Option (List ℕ) → Type 0
-ReadToEnd left new_left = new_left ≡ option_map (λ bytes. []) left
 
 -- the answer is that of the text that was left, and of some text where that isn't told
 abbrev pub Answers : ℕ → Option (List ℕ) → Result (List Tri) ObjFault → Type 0

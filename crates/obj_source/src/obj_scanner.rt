@@ -7,6 +7,7 @@ ghost use Rattle.obj_source.specs.Scanner.{HasTaken, HasRoom, IsFirstFault, IsRe
 use crate::faults::ObjFault;
 use crate::mesh_builder::MeshBuilder;
 use geom_core::Tri;
+use span_io::{Consumer, Fed};
 use std::alloc::{AllocError, Global};
 
 /// The most bytes of the first word of a line that is a `v` or an `f` alone, and perhaps a CR.
@@ -43,7 +44,8 @@ impl ObjScanner {
     /// Before any byte.
     pub(crate) fn of(alloc: Global, scale: u32) -> ObjScanner
         requires scale_range { (1 ≤ scale) × (scale ≤ 65536) }
-        ensures { HasTaken result scale [] }
+        ensures taken { HasTaken result scale [] }
+        ensures scale { result.builder.scale ≡ scale }
     {
         ObjScanner {
             builder: MeshBuilder::of(alloc, scale),
@@ -208,6 +210,27 @@ impl ObjScanner {
             Err(ObjFault::Empty)
         } else {
             Ok(triangles)
+        }
+    }
+}
+
+impl Consumer for ObjScanner {
+    ghost use Rattle.obj_source.specs.Mesh.{longest};
+    ghost use Rattle.obj_source.specs.Scanner.{HasTaken, IsFirstFault, OnLineFault};
+
+    type Outcome = ObjFault;
+
+    ghost byte_limit = { longest };
+
+    ghost has_fed = { λ start now bytes. HasTaken now start.builder.scale bytes };
+
+    ghost stops = { λ start bytes fault.
+        OnLineFault (IsFirstFault start.builder.scale bytes) fault };
+
+    fn feed(&mut self, piece: &[u8]) -> Fed<ObjFault> {
+        match self.scan(piece) {
+            Ok(()) => Fed::Continue,
+            Err(fault) => Fed::Stop(fault),
         }
     }
 }

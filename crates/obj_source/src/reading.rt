@@ -1,25 +1,14 @@
-ghost use Rattle.std.specs.Prelude.{◌≡◌, ◌≤◌, IfOk, IfErr, OnOk, vec_len};
-ghost use Rattle.obj_source.specs.Readings.{Listed, ReadToEnd, Refused};
+ghost use Rattle.std.specs.Prelude.{◌≡◌, ◌≤◌, IfOk, IfErr, OnOk};
+ghost use Rattle.span_io.specs.Reads.{ReadToEnd};
+ghost use Rattle.obj_source.specs.Readings.{Listed, Refused};
 ghost use Rattle.obj_source.specs.SourceTriangles.{AreSourceTriangles};
 
 use crate::faults::ObjFault;
 use crate::obj_scanner::ObjScanner;
 use geom_core::Tri;
-use span_io::{Got, Source};
-use std::alloc::{AllocError, Global};
-
-/// The most bytes of a text that is read.
-const MAX_OBJ_BYTES: usize = 268_435_456;
-
-/// The most bytes that are asked for at once.
-const READ_BYTES: usize = 65_536;
-
-/// So many bytes, all 0.
-fn zeros(alloc: Global, len: usize) -> Result<Vec<u8>, AllocError>
-    ensures { IfOk result (λ bytes. vec_len bytes ≡ len) }
-{
-    vec![in alloc; 0; len]
-}
+use geom_core::limits::MAX_OBJ_BYTES;
+use span_io::{ReadEnd, Source, read_into};
+use std::alloc::Global;
 
 /// The triangles of an OBJ text on a grid of `scale` steps to the unit, in the order of its `f` lines, or
 /// its first fault.
@@ -39,25 +28,18 @@ pub fn read_obj<S: Source>(alloc: Global, src: &mut S, scale: u32) -> Result<Vec
     ensures listed { IfOk result (λ tris. Listed scale (S.left src.old) tris.items) }
     ensures sound { IfOk result (λ tris. AreSourceTriangles tris.items) }
     ensures ended { OnOk result (ReadToEnd (S.left src.old) (S.left src.new)) }
+    ensures no_fault { OnOk result (S.faults src.new ≡ S.faults src.old) }
 
     ensures refused { IfErr result (Refused scale (S.left src.old) (S.left src.new)
         (S.faults src.old) (S.faults src.new)) }
     ensures fault_count { S.faults src.old ≤ S.faults src.new }
 {
     let mut scanner = ObjScanner::of(alloc, scale);
-    let mut buffer = zeros(alloc, READ_BYTES)?;
-    let mut count = 0;
-    'pieces: while count <= MAX_OBJ_BYTES {
-        let room = READ_BYTES.min(MAX_OBJ_BYTES + 1 - count);
-        let piece = &mut buffer[..room];
-        match src.read_some(piece) {
-            Got::Bytes(more) => {
-                scanner.take(&piece[..more.min(MAX_OBJ_BYTES - count)])?;
-                count += more;
-            }
-            Got::End => return scanner.end(),
-            Got::Failed => return Err(ObjFault::Read),
-        }
+    match read_into(alloc, src, MAX_OBJ_BYTES as usize, &mut scanner) {
+        ReadEnd::End => scanner.end(),
+        ReadEnd::Stopped(fault) => Err(fault),
+        ReadEnd::TooLong => Err(ObjFault::TooLong),
+        ReadEnd::Failed => Err(ObjFault::Read),
+        ReadEnd::Memory => Err(ObjFault::Memory),
     }
-    Err(ObjFault::TooLong)
 }

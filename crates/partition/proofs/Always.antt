@@ -2,9 +2,9 @@
 use Rattle.std.proofs.Common.{◌≡◌, ◌<◌, ◌≤◌, ◌+◌, ◌⊎◌, inl, inr, ℕ, zero, suc, Bool, true, false, ◌&&◌, ◌||◌, eqb, ltb, cond, List, [], ◌∷◌, ◌++◌, length, get_or, set, replicate, refl, sym, ap, ◌∙◌, arith}
 use Rattle.std.proofs.lemmas.Bool.{and_from, and_parts, or_cases, or_left, or_right, cases_Bool, cases_lt, cases_order, eqb-true, ltb-true, eq-eqb, lt-ltb, both_ways}
 use Rattle.std.proofs.lemmas.List.{get_or-replicate, length-replicate, length-set, length_push}
-use Rattle.partition.specs.Frontiers.{IsLeft}
+use Rattle.partition.specs.Internal.Frontiers.{IsLeft}
 use Rattle.partition.specs.Growing.{goes_before, is_chosen, is_grown, is_in, ranks_before, touches}
-use Rattle.partition.specs.Growths.{SomeLeft, batch_of}
+use Rattle.partition.specs.Internal.Growths.{SomeLeft, batch_of}
 use Rattle.partition.proofs.Marks.{count-more, left_below, marks-more, some_left}
 use Rattle.partition.proofs.Nexts.{IsNext, is_next-from}
 use Rattle.partition.proofs.OnePlace.{IsMarked}

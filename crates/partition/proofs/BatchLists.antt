@@ -1,4 +1,4 @@
--- Lists that grow by one in a loop, batches joined, and batches of ranks turned back into numbers.
+-- Lists that grow by one in a loop, batches joined, and batches of ranks replaced by numbers.
 use Rattle.std.proofs.Common.{◌≡◌, ℕ, zero, suc, ◌+◌, ◌-◌, ◌*◌, ◌<◌, ◌≤◌, Bool, true, false, cond, List, [], ◌∷◌, ◌++◌, length, get_or, take, drop, map, filter, slice_index, All, sym, ap, ◌∙◌, subst, arith, add-zero, zero-add, append-nil, length-take}
 use mathlib.Core.Path.{fun_ext}
 use Rattle.std.specs.Fork.{slice_chunk}
@@ -11,18 +11,19 @@ use Rattle.std.proofs.Math.Nat.{lt-div-mul-add}
 use Rattle.std.proofs.Math.Seq.{take-add}
 use Rattle.geom_core.specs.declared.points.Pt.{Pt}
 use Rattle.partition.specs.declared.ranking.Keyed.{Keyed}
-use Rattle.partition.specs.declared.sides.Side.{Side}
-use Rattle.partition.specs.Batches.{AreBatches, AreTurnedBatches}
+use Rattle.partition.specs.declared.edge_uses.EdgeUse.{EdgeUse}
+use Rattle.partition.specs.Batches.{AreBatches}
+use Rattle.partition.specs.Internal.RankBatches.{AreBatchesOfRanks}
 use Rattle.partition.specs.Growing.{batch_count, batches_of, is_grown}
 use Rattle.partition.specs.Neighbours.{are_neighbours, share_edge}
-use Rattle.partition.specs.Ranking.{IsRanking}
-use Rattle.partition.specs.Sides.{in_order, meet_at, sides_from}
-use Rattle.partition.proofs.SideLists.{meet_at-sides_from}
-use Rattle.partition.proofs.Turning.{grown_turned, turns}
+use Rattle.partition.specs.Internal.Ranking.{IsRanking}
+use Rattle.partition.specs.Internal.EdgeUses.{in_order, are_adjacent_in, uses_from}
+use Rattle.partition.proofs.EdgeUseLists.{are_adjacent_in-uses_from}
+use Rattle.partition.proofs.Renumbering.{grown_renumbered, renumbers}
 
 -- ---- one more
 
-range_more : (n : ℕ) → range_with_len 0 (n + 1) ≡ range_with_len 0 n ++ n ∷ []
+pub range_more : (n : ℕ) → range_with_len 0 (n + 1) ≡ range_with_len 0 n ++ n ∷ []
 range_more n =
     sym (map-id (range_with_len 0 (n + 1)))
     ∙ (map-range_with_len_more (λ k. k) 0 n n (zero-add n)
@@ -78,7 +79,7 @@ concat-batches_of size xs h =
     ∙ (ap (λ n. take (batch_count size xs * size) (drop n xs)) none
     ∙ take_all (batch_count size xs * size) xs enough)
 
--- ---- items meet at runs and at sides alike
+-- ---- items are adjacent by shared edges and by edge uses alike
 
 pub is_grown_same : (n : ℕ) (near other : ℕ → ℕ → Bool) (size : ℕ) (ranks : List ℕ) → ((i j : ℕ) → near i j ≡ other i j) →
     is_grown n (λ _. 0) near size ranks ≡ true → is_grown n (λ _. 0) other size ranks ≡ true
@@ -98,27 +99,27 @@ All-ranking keys order s =
     let len = length-range_with_len 0 (length keys) in
     omega (arith, get_or-range_with_len 0 (length keys) k d (omega arith)))
 
--- ---- batches of ranks turned back
+-- ---- batches of ranks replaced by numbers
 
-pub batches_from_turned : (keys : List ℕ) (edges : List (List (Pt × Pt))) (order : List ℕ) (sides : List Side) (size : ℕ) (batches : List (List ℕ)) →
-    0 < size → IsRanking keys order → sides ≡ sides_from 0 (in_order edges order) → AreTurnedBatches order sides size batches → AreBatches keys edges size batches
-batches_from_turned keys edges order sides size batches h ranked e t =
+pub batches_from_renumbered : (keys : List ℕ) (edges : List (List (Pt × Pt))) (order : List ℕ) (uses : List EdgeUse) (size : ℕ) (batches : List (List ℕ)) →
+    0 < size → IsRanking keys order → uses ≡ uses_from 0 (in_order edges order) → AreBatchesOfRanks order uses size batches → AreBatches keys edges size batches
+batches_from_renumbered keys edges order uses size batches h ranked e t =
     let len : length order ≡ length keys = length-ranking keys order ranked in
     let item : ℕ → List (Pt × Pt) = λ number. slice_index_or edges number [] in
-    let near_is : (r s : ℕ) → r < length keys → s < length keys → meet_at sides r s ≡ are_neighbours edges (slice_index order r) (slice_index order s) =
+    let near_is : (r s : ℕ) → r < length keys → s < length keys → are_adjacent_in uses r s ≡ are_neighbours edges (slice_index order r) (slice_index order s) =
     λ r s hr hs.
-    ap (λ xs. meet_at xs r s) e
-    ∙ (meet_at-sides_from (in_order edges order) r s
+    ap (λ xs. are_adjacent_in xs r s) e
+    ∙ (are_adjacent_in-uses_from (in_order edges order) r s
     ∙ (ap (λ xs. share_edge xs (get_or (in_order edges order) s [])) (get_or-map item order r 0 [] (omega arith))
     ∙ ap (λ ys. share_edge (item (get_or order r 0)) ys) (get_or-map item order s 0 [] (omega arith)))) in
     let numbers : List ℕ = map (slice_index order) t.ranks in
     let joined : concat batches ≡ map (slice_index order) t.ranks =
-    ap concat t.cut ∙ concat-batches_of size (map (slice_index order) t.ranks) h in
-    let P : ℕ → Type 0 = λ n. is_grown n (λ _. 0) (meet_at sides) size t.ranks ≡ true in
+    ap concat t.split ∙ concat-batches_of size (map (slice_index order) t.ranks) h in
+    let P : ℕ → Type 0 = λ n. is_grown n (λ _. 0) (are_adjacent_in uses) size t.ranks ≡ true in
     let Q : List ℕ → Type 0 = λ xs. is_grown (length keys) (slice_index keys) (are_neighbours edges) size xs ≡ true in
     record {
       grown = subst Q (sym joined)
-          (grown_turned (length keys) (slice_index keys) (meet_at sides) (are_neighbours edges) order
-          (turns keys order (meet_at sides) (are_neighbours edges) ranked near_is) size t.ranks (subst P len t.grown));
-      cut = t.cut ∙ ap (batches_of size) (sym joined);
+          (grown_renumbered (length keys) (slice_index keys) (are_adjacent_in uses) (are_neighbours edges) order
+          (renumbers keys order (are_adjacent_in uses) (are_neighbours edges) ranked near_is) size t.ranks (subst P len t.grown));
+      split = t.split ∙ ap (batches_of size) (sym joined);
     }

@@ -1,10 +1,9 @@
--- The batches of an order: how long each is, where an item of one stands, and that they join to the order.
-use Rattle.std.proofs.Common.{◌≡◌, ◌<◌, ◌≤◌, ◌+◌, ◌-◌, ◌*◌, ◌/◌, ◌%◌, inl, inr, ℕ, zero, suc, Bool, min, List, [], ◌++◌, length, get_or, take, drop, map, Contains, sym, ap, ◌∙◌, zero-add, arith}
+-- The batches of an order: how long each is, and where an item of one is.
+use Rattle.std.proofs.Common.{◌≡◌, ◌<◌, ◌≤◌, ◌+◌, ◌-◌, ◌*◌, ◌/◌, ◌%◌, inl, inr, ℕ, Bool, min, List, [], length, get_or, drop, Contains, sym, ap, ◌∙◌, zero-add, arith}
 use Rattle.std.specs.Fork.{slice_chunk}
-use Rattle.std.specs.List.{flat_map, range_with_len}
-use Rattle.std.proofs.lemmas.List.{drop-drop, get_or_default, get_or-drop, get_or-map, get_or-take, length-drop, length-map, length-take, take_all}
+use Rattle.std.specs.List.{range_with_len}
+use Rattle.std.proofs.lemmas.List.{get_or_default, get_or-drop, get_or-map, get_or-take, length-drop, length-map, length-take}
 use Rattle.std.proofs.lemmas.Nat.{div-add-mod', div-mul-add}
-use Rattle.std.proofs.Math.Seq.{take-add}
 use Rattle.std.proofs.Math.Nat.{mul-le-mul_right}
 use Rattle.std.proofs.lemmas.Bool.{cases_lt}
 use Rattle.partition.specs.Growing.{batch_count, batches_of}
@@ -12,13 +11,13 @@ use Rattle.partition.specs.OneBatch.{IsInOneBatch}
 use Rattle.partition.proofs.Determined.{IsGrown}
 use Rattle.partition.proofs.Members.{is_in-from, is_in-true}
 use Rattle.partition.proofs.OnePlace.{item_placed, place_is_one}
-use Rattle.partition.proofs.RunLists.{length-range, get_or-range}
+use Rattle.partition.proofs.SharedEdgeLists.{length-range, get_or-range}
 
 -- how many batches there are: all but the last are full, and the last has an item
 count_covers : (size total : ℕ) → 0 < size → total ≤ (total + (size - 1)) / size * size
 count_covers size total some = omega (arith, div-add-mod' (total + (size - 1)) size)
 
-batch_begins : (size total k : ℕ) → 0 < size → k < (total + (size - 1)) / size → k * size < total
+pub batch_begins : (size total k : ℕ) → 0 < size → k < (total + (size - 1)) / size → k * size < total
 batch_begins size total k some h =
     let whole = div-add-mod' (total + (size - 1)) size in
     let last : (k + 1) * size ≤ (total + (size - 1)) / size * size = mul-le-mul_right size (omega arith) in
@@ -98,22 +97,3 @@ in_one_batch n key near size order some is item h =
           let one : other * size + among.0 ≡ place = place_is_one n key near size order is (other * size + among.0) place (omega (arith, is.whole)) (omega (arith, is.whole, at.1)) here in
           sym (div-mul-add other size among.0 short) ∙ ap (λ p. p / size) one;
     }
-
--- the batches join to the order
-joined : (size : ℕ) (order : List ℕ) (first count : ℕ) → flat_map (λ batch. batch) (map (slice_chunk order size) (range_with_len first count)) ≡ take (count * size) (drop (first * size) order)
-joined size order first zero =
-    let none : 0 ≡ 0 * size = omega arith in
-    ap (λ n. take n (drop (first * size) order)) none
-joined size order first (suc count) =
-    let rest : List ℕ = drop (first * size) order in
-    let next : (first + 1) * size ≡ first * size + size = omega arith in
-    let more : size + count * size ≡ suc count * size = omega arith in
-    ap (λ batches. take size rest ++ batches) (joined size order (first + 1) count ∙ ap (λ n. take (count * size) (drop n order)) next
-    ∙ ap (take (count * size)) (sym (drop-drop size (first * size) order)))
-    ∙ sym (take-add size (count * size) rest) ∙ ap (λ n. take n rest) more
-
-pub batches_joined : (size : ℕ) (order : List ℕ) → 0 < size → flat_map (λ batch. batch) (batches_of size order) ≡ order
-unfolding batches_of
-batches_joined size order some =
-    let none : 0 * size ≡ 0 = omega arith in
-    joined size order 0 (batch_count size order) ∙ ap (λ n. take (batch_count size order * size) (drop n order)) none ∙ take_all (batch_count size order * size) order (count_covers size (length order) some)

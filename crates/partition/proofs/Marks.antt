@@ -4,8 +4,8 @@ use Rattle.std.proofs.lemmas.Bool.{cases_eq, true≢false}
 use Rattle.std.proofs.lemmas.List.{get_or-set_same, get_or-set_other, length-set}
 use Rattle.std.proofs.lemmas.List.Sums.{sum_by-cons, sum_by-set}
 use Rattle.partition.specs.Growing.{is_in}
-use Rattle.partition.specs.Growths.{SomeLeft}
-use Rattle.partition.specs.Frontiers.{AreCursors, IsLeft}
+use Rattle.partition.specs.Internal.Growths.{SomeLeft}
+use Rattle.partition.specs.Internal.Frontiers.{AreCursors, IsLeft}
 use Rattle.partition.proofs.Members.{is_in-push_same, is_in-push_other}
 
 -- an item that is left is in range
@@ -61,8 +61,8 @@ marks-more placed order item below marks other h =
           ∙ sym (is_in-push_other order item other differ)
     ]
 
-pub AreCursors-more : (runs : List (List ℕ)) (placed : List Bool) (cursors : List ℕ) (item : ℕ) → AreCursors runs placed cursors → AreCursors runs (set placed item true) cursors
-AreCursors-more runs placed cursors item are = record {
+pub AreCursors-more : (shared : List (List ℕ)) (placed : List Bool) (cursors : List ℕ) (item : ℕ) → AreCursors shared placed cursors → AreCursors shared (set placed item true) cursors
+AreCursors-more shared placed cursors item are = record {
   counted = are.counted;
-  passed = λ run h k below within. placed-keeps placed item (get_or (get_or runs run []) k 0) (are.passed run h k below within);
+  passed = λ edge h k below within. placed-keeps placed item (get_or (get_or shared edge []) k 0) (are.passed edge h k below within);
 }

@@ -4,11 +4,11 @@ use Rattle.std.specs.List.{list_all, range_with_len}
 use Rattle.std.proofs.lemmas.Bool.{lt-ltb, ltb-true, eq-eqb, eqb-true, or_cases, or_left, or_right, and_from, and_parts, cases_eq, cases_lt, cases_Bool, both_ways, not-true, not_from_false}
 use Rattle.std.proofs.lemmas.List.{get_or_default}
 use Rattle.std.proofs.lemmas.List.Elements.{Contains-get_or}
-use Rattle.partition.specs.Frontiers.{HasLesser, IsEntered, IsLeastLeft, IsLeft, NoneLeft}
+use Rattle.partition.specs.Internal.Frontiers.{HasLesser, HasLeastOf, IsLeastLeft, IsLeft, NoneLeft}
 use Rattle.partition.specs.Growing.{goes_before, is_in, is_next, touches}
-use Rattle.partition.specs.Growths.{Grows, IsNextLeft, IsPlacedBelow, Touches, batch_of}
-use Rattle.partition.specs.Holders.{RunHolds}
-use Rattle.partition.specs.Runs.{meet}
+use Rattle.partition.specs.Internal.Growths.{Grows, IsNextLeft, IsPlacedBelow, Touches, batch_of}
+use Rattle.partition.specs.Internal.EdgesOfItem.{EdgeHasItem}
+use Rattle.partition.specs.Internal.SharedEdges.{are_adjacent}
 use Rattle.partition.proofs.Marks.{left_below}
 use Rattle.partition.proofs.Members.{Passes, is_in-from, is_in-true, list_all-from, list_all-at, list_any-from, list_any-true}
 
@@ -53,27 +53,27 @@ is_next-is n key near placed batch i h =
     }
 
 -- between the test of neighbours and what it means
-pub touches-from : (runs : List (List ℕ)) (batch : List ℕ) (item : ℕ) → Touches runs batch item → touches (meet runs) batch item ≡ true
-touches-from runs batch item is =
-    let run : List ℕ = get_or runs is.run [] in
-    list_any-from (λ j. meet runs j item) batch is.member is.in_batch
-    (list_any-from (λ run. is_in run is.member && is_in run item) runs run (Contains-get_or runs is.run [] is.with_member.0)
-    (and_from (is_in run is.member) (is_in run item) (is_in-from run is.member is.with_member.1) (is_in-from run item is.with_item.1)))
+pub touches-from : (shared : List (List ℕ)) (batch : List ℕ) (item : ℕ) → Touches shared batch item → touches (are_adjacent shared) batch item ≡ true
+touches-from shared batch item is =
+    let edge : List ℕ = get_or shared is.edge [] in
+    list_any-from (λ j. are_adjacent shared j item) batch is.member is.in_batch
+    (list_any-from (λ edge. is_in edge is.member && is_in edge item) shared edge (Contains-get_or shared is.edge [] is.with_member.0)
+    (and_from (is_in edge is.member) (is_in edge item) (is_in-from edge is.member is.with_member.1) (is_in-from edge item is.with_item.1)))
 
-pub touches-true : (runs : List (List ℕ)) (batch : List ℕ) (item : ℕ) → touches (meet runs) batch item ≡ true → Touches runs batch item
-touches-true runs batch item h =
-    let member : Passes (λ j. meet runs j item) batch = list_any-true (λ j. meet runs j item) batch h in
-    let holds : ℕ → List ℕ → Bool = λ j run. is_in run j && is_in run item in
-    let run : Passes (holds member.item) runs = list_any-true (holds member.item) runs member.passes in
-    let both = and_parts (is_in run.item member.item) (is_in run.item item) run.passes in
-    let at : Contains runs run.item = run.among in
-    let same : run.item ≡ get_or runs at.0 [] = sym at.2 ∙ get_or_default runs at.0 run.item [] at.1 in
+pub touches-true : (shared : List (List ℕ)) (batch : List ℕ) (item : ℕ) → touches (are_adjacent shared) batch item ≡ true → Touches shared batch item
+touches-true shared batch item h =
+    let member : Passes (λ j. are_adjacent shared j item) batch = list_any-true (λ j. are_adjacent shared j item) batch h in
+    let holds : ℕ → List ℕ → Bool = λ j edge. is_in edge j && is_in edge item in
+    let edge : Passes (holds member.item) shared = list_any-true (holds member.item) shared member.passes in
+    let both = and_parts (is_in edge.item member.item) (is_in edge.item item) edge.passes in
+    let at : Contains shared edge.item = edge.among in
+    let same : edge.item ≡ get_or shared at.0 [] = sym at.2 ∙ get_or_default shared at.0 edge.item [] at.1 in
     record {
-      run = at.0;
+      edge = at.0;
       member = member.item;
       in_batch = member.among;
-      with_member = (at.1, rw same at (is_in-true run.item member.item both.0));
-      with_item = (at.1, rw same at (is_in-true run.item item both.1));
+      with_member = (at.1, rw same at (is_in-true edge.item member.item both.0));
+      with_item = (at.1, rw same at (is_in-true edge.item item both.1));
     }
 
 -- which of two items goes before the other, by cases
@@ -84,50 +84,50 @@ goes_first near_i false less both either =
     elim (either refl) [ inl touching ↦ or_left near_i less touching | inr lesser ↦ or_right near_i less lesser ]
 
 -- an item that isn't placed and touches the batch has a lesser one in the queue
-lesser_of : (runs : List (List ℕ)) (batch : List ℕ) (placed : List Bool) (queue : List ℕ) (j : ℕ) →
-    ((run member : ℕ) → Contains batch member → RunHolds runs run member → IsEntered (get_or runs run []) placed queue) →
-    IsLeft placed j → touches (meet runs) batch j ≡ true →
+lesser_of : (shared : List (List ℕ)) (batch : List ℕ) (placed : List Bool) (queue : List ℕ) (j : ℕ) →
+    ((edge member : ℕ) → Contains batch member → EdgeHasItem shared edge member → HasLeastOf (get_or shared edge []) placed queue) →
+    IsLeft placed j → touches (are_adjacent shared) batch j ≡ true →
     (lesser : ℕ) × Contains queue lesser × (lesser ≤ j) × IsLeft placed lesser
-lesser_of runs batch placed queue j ready left h =
-    let is : Touches runs batch j = touches-true runs batch j h in
-    let has : HasLesser (get_or runs is.run []) placed queue j = ready is.run is.member is.in_batch is.with_member j is.with_item.1 left in
+lesser_of shared batch placed queue j ready left h =
+    let is : Touches shared batch j = touches-true shared batch j h in
+    let has : HasLesser (get_or shared is.edge []) placed queue j = ready is.edge is.member is.in_batch is.with_member j is.with_item.1 left in
     (has.lesser, has.queued, has.le, has.left)
 
 -- the least of the queue goes first
-queued_first : (runs : List (List ℕ)) (batch : List ℕ) (placed : List Bool) (queue : List ℕ) (item j : ℕ) →
-    ((run member : ℕ) → Contains batch member → RunHolds runs run member → IsEntered (get_or runs run []) placed queue) →
-    ((item : ℕ) → Contains queue item → Touches runs batch item) →
-    IsLeastLeft queue placed item → IsLeft placed j → (item ≢ j) → goes_before (λ _. 0) (meet runs) batch item j ≡ true
-queued_first runs batch placed queue item j ready queued first left other =
-    let touching = touches-from runs batch item (queued item first.among) in
-    goes_first (touches (meet runs) batch item) (touches (meet runs) batch j) (ltb item j)
+queued_first : (shared : List (List ℕ)) (batch : List ℕ) (placed : List Bool) (queue : List ℕ) (item j : ℕ) →
+    ((edge member : ℕ) → Contains batch member → EdgeHasItem shared edge member → HasLeastOf (get_or shared edge []) placed queue) →
+    ((item : ℕ) → Contains queue item → Touches shared batch item) →
+    IsLeastLeft queue placed item → IsLeft placed j → (item ≢ j) → goes_before (λ _. 0) (are_adjacent shared) batch item j ≡ true
+queued_first shared batch placed queue item j ready queued first left other =
+    let touching = touches-from shared batch item (queued item first.among) in
+    goes_first (touches (are_adjacent shared) batch item) (touches (are_adjacent shared) batch j) (ltb item j)
     (λ h.
-    let has = lesser_of runs batch placed queue j ready left h in
+    let has = lesser_of shared batch placed queue j ready left h in
     let le : item ≤ has.0 = first.least has.0 has.1 has.3 in
     (touching, lt-ltb item j (omega (arith, has.2))))
     (λ h. inl touching)
 
 -- where the queue has none left, the least of all goes first
-others_first : (runs : List (List ℕ)) (batch : List ℕ) (placed : List Bool) (queue : List ℕ) (item j : ℕ) →
-    ((run member : ℕ) → Contains batch member → RunHolds runs run member → IsEntered (get_or runs run []) placed queue) →
-    NoneLeft queue placed → IsPlacedBelow placed item → IsLeft placed j → (item ≢ j) → goes_before (λ _. 0) (meet runs) batch item j ≡ true
-others_first runs batch placed queue item j ready none least left other =
-    goes_first (touches (meet runs) batch item) (touches (meet runs) batch j) (ltb item j)
+others_first : (shared : List (List ℕ)) (batch : List ℕ) (placed : List Bool) (queue : List ℕ) (item j : ℕ) →
+    ((edge member : ℕ) → Contains batch member → EdgeHasItem shared edge member → HasLeastOf (get_or shared edge []) placed queue) →
+    NoneLeft queue placed → IsPlacedBelow placed item → IsLeft placed j → (item ≢ j) → goes_before (λ _. 0) (are_adjacent shared) batch item j ≡ true
+others_first shared batch placed queue item j ready none least left other =
+    goes_first (touches (are_adjacent shared) batch item) (touches (are_adjacent shared) batch j) (ltb item j)
     (λ h.
-    let has = lesser_of runs batch placed queue j ready left h in
+    let has = lesser_of shared batch placed queue j ready left h in
     absurd (both_ways (get_or placed has.0 true) has.3 (none has.0 has.1)))
     (λ h. inr (elim (cases_lt j item) [
       | inl before ↦ absurd (both_ways (get_or placed j true) left (least j before))
       | inr after ↦ lt-ltb item j (omega arith)
     ]))
 
--- The next item is what the frontier gives, where each run that touches the batch is entered.
-pub next_is : (runs : List (List ℕ)) (size : ℕ) (placed : List Bool) (order : List ℕ) (least : ℕ) (cursors queue : List ℕ) (item : ℕ) →
-    Grows runs size placed order least cursors queue →
-    ((run member : ℕ) → Contains (batch_of size order) member → RunHolds runs run member → IsEntered (get_or runs run []) placed queue) →
-    IsNextLeft placed queue item → is_next (length placed) (λ _. 0) (meet runs) order (batch_of size order) item ≡ true
-next_is runs size placed order least cursors queue item grows ready next =
-    is_next-from (length placed) (λ _. 0) (meet runs) order (batch_of size order) item (elim next [
+-- The next item is what the frontier gives, if each shared edge that touches the batch has its least item queued.
+pub next_is : (shared : List (List ℕ)) (size : ℕ) (placed : List Bool) (order : List ℕ) (least : ℕ) (cursors queue : List ℕ) (item : ℕ) →
+    Grows shared size placed order least cursors queue →
+    ((edge member : ℕ) → Contains (batch_of size order) member → EdgeHasItem shared edge member → HasLeastOf (get_or shared edge []) placed queue) →
+    IsNextLeft placed queue item → is_next (length placed) (λ _. 0) (are_adjacent shared) order (batch_of size order) item ≡ true
+next_is shared size placed order least cursors queue item grows ready next =
+    is_next-from (length placed) (λ _. 0) (are_adjacent shared) order (batch_of size order) item (elim next [
       | inl first ↦
           let below : item < length placed = left_below placed item first.left in
           record {
@@ -135,7 +135,7 @@ next_is runs size placed order least cursors queue item grows ready next =
             left = sym (grows.marks item below) ∙ first.left;
             first = λ j h left. elim (cases_eq item j) [
               | inl same ↦ inl same
-              | inr other ↦ inr (queued_first runs (batch_of size order) placed queue item j ready grows.queued first (grows.marks j h ∙ left) other)
+              | inr other ↦ inr (queued_first shared (batch_of size order) placed queue item j ready grows.queued first (grows.marks j h ∙ left) other)
             ];
           }
       | inr rest ↦
@@ -145,7 +145,7 @@ next_is runs size placed order least cursors queue item grows ready next =
             left = sym (grows.marks item below) ∙ rest.1;
             first = λ j h left. elim (cases_eq item j) [
               | inl same ↦ inl same
-              | inr other ↦ inr (others_first runs (batch_of size order) placed queue item j ready rest.0 rest.2 (grows.marks j h ∙ left) other)
+              | inr other ↦ inr (others_first shared (batch_of size order) placed queue item j ready rest.0 rest.2 (grows.marks j h ∙ left) other)
             ];
           }
     ])

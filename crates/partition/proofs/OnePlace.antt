@@ -1,9 +1,9 @@
--- Each item stands in a grown order once.
+-- Each item is in a grown order once.
 use Rattle.std.proofs.Common.{◌≡◌, ◌≢◌, ◌<◌, ◌≤◌, ◌+◌, inl, inr, ℕ, zero, suc, Bool, true, false, eqb, cond, List, [], ◌∷◌, ◌++◌, length, get_or, set, take, replicate, count_by, Contains, refl, sym, ap, ◌∙◌, arith}
 use Rattle.std.proofs.lemmas.Bool.{both_ways, cases_order, eq-eqb, ne_eqb, true_from_ne_false}
 use Rattle.std.proofs.lemmas.List.{get_or_default, get_or-replicate, get_or-take, length-replicate, length-set, length-take-le, length_push, take_all, take_more}
 use Rattle.std.proofs.lemmas.List.Sums.{count_by-le-length, sum_by-cons}
-use Rattle.partition.specs.Frontiers.{IsLeft}
+use Rattle.partition.specs.Internal.Frontiers.{IsLeft}
 use Rattle.partition.specs.Growing.{batch_before, is_in}
 use Rattle.partition.proofs.Determined.{IsGrown}
 use Rattle.partition.proofs.Marks.{count-more, marks-more}
@@ -69,7 +69,7 @@ front_marked n key near size order is (suc k) h =
       counted = count-more before.marks item left ∙ ap (λ c. c + 1) before.counted ∙ sym (length_push (take k order) item);
     })
 
--- each item stands in the order
+-- each item is in the order
 pub item_placed : (n : ℕ) (key : ℕ → ℕ) (near : ℕ → ℕ → Bool) (size : ℕ) (order : List ℕ) → IsGrown n key near size order →
     (item : ℕ) → item < n → Contains order item
 item_placed n key near size order is item h =

@@ -4,11 +4,11 @@ use Rattle.std.proofs.lemmas.Bool.{cases_Bool, cases_eq, cases_lt, both_ways}
 use Rattle.std.proofs.lemmas.List.{get_or_append_left, get_or_push, length-set, length_push, take_all, take_at, take-append-le, drop-append-le, drop_all}
 use Rattle.std.proofs.lemmas.List.Elements.{Contains-append_left, Contains-push, Contains-push_cases}
 use Rattle.std.proofs.lemmas.Nat.{div-add-mod', div-mul-add, mod-mul-add}
-use Rattle.partition.specs.Frontiers.{AddsNeighbours, AreCursors, AreEntered, HasLesser, IsEntered, Keeps}
+use Rattle.partition.specs.Internal.Frontiers.{AddsNeighbours, AreCursors, HasLeastOfEach, HasLesser, HasLeastOf, Keeps}
 use Rattle.partition.specs.Growing.{is_chosen, is_in, is_next}
-use Rattle.partition.specs.Growths.{Grows, Touches, batch_of}
-use Rattle.partition.specs.Holders.{RunHolds}
-use Rattle.partition.specs.Runs.{meet}
+use Rattle.partition.specs.Internal.Growths.{Grows, Touches, batch_of}
+use Rattle.partition.specs.Internal.EdgesOfItem.{EdgeHasItem}
+use Rattle.partition.specs.Internal.SharedEdges.{are_adjacent}
 use Rattle.partition.proofs.Marks.{count-more, left_before, left_after, marks-more, placed-keeps}
 use Rattle.partition.proofs.Members.{is_in-from, is_in-true}
 use Rattle.partition.proofs.Nexts.{IsNext, is_next-is}
@@ -61,14 +61,14 @@ is_chosen-here n key near size order item next =
     rw (take_at order (item ∷ []) (length order) refl, get_or_push order item 0 (length order) refl) before
 
 -- one more item
-pub Grows-more : (runs : List (List ℕ)) (size : ℕ) (placed : List Bool) (order : List ℕ) (least : ℕ) (cursors queue : List ℕ) (item : ℕ)
-    (cursors' queue' : List ℕ) → Grows runs size placed order least cursors queue →
-    is_next (length placed) (λ _. 0) (meet runs) order (batch_of size order) item ≡ true →
-    AreCursors runs (set placed item true) cursors' →
-    ((k : ℕ) → Contains queue' k → Touches runs (batch_of size (order ++ item ∷ [])) k) →
-    Grows runs size (set placed item true) (order ++ item ∷ []) least cursors' queue'
-Grows-more runs size placed order least cursors queue item cursors' queue' grows next passed queued =
-    let is : IsNext (length placed) (λ _. 0) (meet runs) order (batch_of size order) item = is_next-is (length placed) (λ _. 0) (meet runs) order (batch_of size order) item next in
+pub Grows-more : (shared : List (List ℕ)) (size : ℕ) (placed : List Bool) (order : List ℕ) (least : ℕ) (cursors queue : List ℕ) (item : ℕ)
+    (cursors' queue' : List ℕ) → Grows shared size placed order least cursors queue →
+    is_next (length placed) (λ _. 0) (are_adjacent shared) order (batch_of size order) item ≡ true →
+    AreCursors shared (set placed item true) cursors' →
+    ((k : ℕ) → Contains queue' k → Touches shared (batch_of size (order ++ item ∷ [])) k) →
+    Grows shared size (set placed item true) (order ++ item ∷ []) least cursors' queue'
+Grows-more shared size placed order least cursors queue item cursors' queue' grows next passed queued =
+    let is : IsNext (length placed) (λ _. 0) (are_adjacent shared) order (batch_of size order) item = is_next-is (length placed) (λ _. 0) (are_adjacent shared) order (batch_of size order) item next in
     let same : length (set placed item true) ≡ length placed = length-set placed item true in
     record {
       marks = marks-more placed order item is.below grows.marks;
@@ -77,17 +77,17 @@ Grows-more runs size placed order least cursors queue item cursors' queue' grows
       passed = passed;
       queued = queued;
       grown = λ place h. rw same (elim (cases_lt place (length order)) [
-        | inl before ↦ is_chosen-before (length placed) (λ _. 0) (meet runs) size order item place before (grows.grown place before)
+        | inl before ↦ is_chosen-before (length placed) (λ _. 0) (are_adjacent shared) size order item place before (grows.grown place before)
         | inr past ↦
             let here : place ≡ length order = omega (arith, length_push order item) in
-            rw here (is_chosen-here (length placed) (λ _. 0) (meet runs) size order item next)
+            rw here (is_chosen-here (length placed) (λ _. 0) (are_adjacent shared) size order item next)
       ]);
     }
 
 -- what touches a batch touches one with more items
-Touches-more : (runs : List (List ℕ)) (batch : List ℕ) (item k : ℕ) → Touches runs batch k → Touches runs (batch ++ item ∷ []) k
-Touches-more runs batch item k is = record {
-  run = is.run;
+Touches-more : (shared : List (List ℕ)) (batch : List ℕ) (item k : ℕ) → Touches shared batch k → Touches shared (batch ++ item ∷ []) k
+Touches-more shared batch item k is = record {
+  edge = is.edge;
   member = is.member;
   in_batch = Contains-append_left batch (item ∷ []) is.member is.in_batch;
   with_member = is.with_member;
@@ -95,14 +95,14 @@ Touches-more runs batch item k is = record {
 }
 
 -- what is queued touches the batch with the item
-queued-more : (runs : List (List ℕ)) (size : ℕ) (order : List ℕ) (item : ℕ) (old new : List ℕ) → 0 < size → ((length order + 1) % size ≡ 0 → ⊥) →
-    ((k : ℕ) → Contains old k → Touches runs (batch_of size order) k) → AddsNeighbours runs item old new →
-    (k : ℕ) → Contains new k → Touches runs (batch_of size (order ++ item ∷ [])) k
-queued-more runs size order item old new some within queued adds k is =
+queued-more : (shared : List (List ℕ)) (size : ℕ) (order : List ℕ) (item : ℕ) (old new : List ℕ) → 0 < size → ((length order + 1) % size ≡ 0 → ⊥) →
+    ((k : ℕ) → Contains old k → Touches shared (batch_of size order) k) → AddsNeighbours shared item old new →
+    (k : ℕ) → Contains new k → Touches shared (batch_of size (order ++ item ∷ [])) k
+queued-more shared size order item old new some within queued adds k is =
     rw (batch_of-more size order item some within) (elim (adds k is) [
-      | inl before ↦ Touches-more runs (batch_of size order) item k (queued k before)
+      | inl before ↦ Touches-more shared (batch_of size order) item k (queued k before)
       | inr shared ↦ record {
-        run = shared.0;
+        edge = shared.0;
         member = item;
         in_batch = Contains-push (batch_of size order) item;
         with_member = shared.1;
@@ -110,11 +110,11 @@ queued-more runs size order item old new some within queued adds k is =
       }
     ])
 
--- a run that doesn't hold the item stays entered
-IsEntered-more : (run : List ℕ) (placed : List Bool) (item : ℕ) (old new : List ℕ) → (Contains run item → ⊥) → Keeps old new →
-    IsEntered run placed old → IsEntered run (set placed item true) new
-IsEntered-more run placed item old new apart keeps entered other among left =
-    let has : HasLesser run placed old other = entered other among (left_before placed item other left) in
+-- a shared edge that doesn't have the item keeps its least item queued
+HasLeastOf-more : (edge : List ℕ) (placed : List Bool) (item : ℕ) (old new : List ℕ) → (Contains edge item → ⊥) → Keeps old new →
+    HasLeastOf edge placed old → HasLeastOf edge (set placed item true) new
+HasLeastOf-more edge placed item old new apart keeps entered other among left =
+    let has : HasLesser edge placed old other = entered other among (left_before placed item other left) in
     let differs : has.lesser ≢ item = λ e. apart (rw e at has.among) in
     record {
       lesser = has.lesser;
@@ -124,54 +124,54 @@ IsEntered-more run placed item old new apart keeps entered other among left =
       le = has.le;
     }
 
--- each run that touches the batch is entered, once those that hold the item are
-ready-more : (runs : List (List ℕ)) (size : ℕ) (placed : List Bool) (order : List ℕ) (item : ℕ) (old new : List ℕ) → 0 < size →
+-- each shared edge that touches the batch has its least item queued, once those that have the item do
+ready-more : (shared : List (List ℕ)) (size : ℕ) (placed : List Bool) (order : List ℕ) (item : ℕ) (old new : List ℕ) → 0 < size →
     ((length order + 1) % size ≡ 0 → ⊥) →
-    ((run member : ℕ) → Contains (batch_of size order) member → RunHolds runs run member → (Contains (get_or runs run []) item → ⊥) →
-    IsEntered (get_or runs run []) placed old) →
-    Keeps old new → AreEntered runs (set placed item true) new item →
-    (run member : ℕ) → Contains (batch_of size (order ++ item ∷ [])) member → RunHolds runs run member →
-    IsEntered (get_or runs run []) (set placed item true) new
-ready-more runs size placed order item old new some within ready keeps entered run member in_batch holds =
-    elim (cases_Bool (is_in (get_or runs run []) item)) [
-      | inl held ↦ entered run (holds.0, is_in-true (get_or runs run []) item held)
+    ((edge member : ℕ) → Contains (batch_of size order) member → EdgeHasItem shared edge member → (Contains (get_or shared edge []) item → ⊥) →
+    HasLeastOf (get_or shared edge []) placed old) →
+    Keeps old new → HasLeastOfEach shared (set placed item true) new item →
+    (edge member : ℕ) → Contains (batch_of size (order ++ item ∷ [])) member → EdgeHasItem shared edge member →
+    HasLeastOf (get_or shared edge []) (set placed item true) new
+ready-more shared size placed order item old new some within ready keeps entered edge member in_batch holds =
+    elim (cases_Bool (is_in (get_or shared edge []) item)) [
+      | inl held ↦ entered edge (holds.0, is_in-true (get_or shared edge []) item held)
       | inr apart ↦
-          let far : Contains (get_or runs run []) item → ⊥ = λ is. both_ways (is_in (get_or runs run []) item) apart (is_in-from (get_or runs run []) item is) in
+          let far : Contains (get_or shared edge []) item → ⊥ = λ is. both_ways (is_in (get_or shared edge []) item) apart (is_in-from (get_or shared edge []) item is) in
           elim (Contains-push_cases (batch_of size order) item member (rw (batch_of-more size order item some within) at in_batch)) [
-            | inl before ↦ IsEntered-more (get_or runs run []) placed item old new far keeps (ready run member before holds far)
+            | inl before ↦ HasLeastOf-more (get_or shared edge []) placed item old new far keeps (ready edge member before holds far)
             | inr same ↦ absurd (far (rw (sym same) at holds.1))
           ]
     ]
 
 -- what is queued then touches the batch
-pub queued-after : (runs : List (List ℕ)) (size : ℕ) (order : List ℕ) (item : ℕ) (old mid new : List ℕ) → 0 < size →
+pub queued-after : (shared : List (List ℕ)) (size : ℕ) (order : List ℕ) (item : ℕ) (old mid new : List ℕ) → 0 < size →
     (length (order ++ item ∷ []) % size ≡ 0 → new ≡ []) → (length (order ++ item ∷ []) % size ≢ 0 → new ≡ mid) →
-    ((k : ℕ) → Contains old k → Touches runs (batch_of size order) k) → AddsNeighbours runs item old mid →
-    (k : ℕ) → Contains new k → Touches runs (batch_of size (order ++ item ∷ [])) k
-queued-after runs size order item old mid new some full room queued adds k is =
+    ((k : ℕ) → Contains old k → Touches shared (batch_of size order) k) → AddsNeighbours shared item old mid →
+    (k : ℕ) → Contains new k → Touches shared (batch_of size (order ++ item ∷ [])) k
+queued-after shared size order item old mid new some full room queued adds k is =
     elim (cases_eq (length (order ++ item ∷ []) % size) 0) [
       | inl ended ↦
           let none : Contains [] k = rw (full ended) at is in
           absurd (omega (arith, none.1))
       | inr goes_on ↦
           let within = rw (length_push order item) at goes_on in
-          queued-more runs size order item old mid some within queued adds k (rw (room goes_on) at is)
+          queued-more shared size order item old mid some within queued adds k (rw (room goes_on) at is)
     ]
 
--- each run that touches the batch is entered then
-pub ready-after : (runs : List (List ℕ)) (size : ℕ) (placed : List Bool) (order : List ℕ) (item : ℕ) (old mid new : List ℕ) → 0 < size →
+-- each shared edge that touches the batch has its least item queued then
+pub ready-after : (shared : List (List ℕ)) (size : ℕ) (placed : List Bool) (order : List ℕ) (item : ℕ) (old mid new : List ℕ) → 0 < size →
     (length (order ++ item ∷ []) % size ≡ 0 → new ≡ []) → (length (order ++ item ∷ []) % size ≢ 0 → new ≡ mid) →
-    ((run member : ℕ) → Contains (batch_of size order) member → RunHolds runs run member → (Contains (get_or runs run []) item → ⊥) →
-    IsEntered (get_or runs run []) placed old) →
-    Keeps old mid → AreEntered runs (set placed item true) mid item →
-    (run member : ℕ) → Contains (batch_of size (order ++ item ∷ [])) member → RunHolds runs run member →
-    IsEntered (get_or runs run []) (set placed item true) new
-ready-after runs size placed order item old mid new some full room ready keeps entered run member in_batch holds =
+    ((edge member : ℕ) → Contains (batch_of size order) member → EdgeHasItem shared edge member → (Contains (get_or shared edge []) item → ⊥) →
+    HasLeastOf (get_or shared edge []) placed old) →
+    Keeps old mid → HasLeastOfEach shared (set placed item true) mid item →
+    (edge member : ℕ) → Contains (batch_of size (order ++ item ∷ [])) member → EdgeHasItem shared edge member →
+    HasLeastOf (get_or shared edge []) (set placed item true) new
+ready-after shared size placed order item old mid new some full room ready keeps entered edge member in_batch holds =
     elim (cases_eq (length (order ++ item ∷ []) % size) 0) [
       | inl ended ↦
           let none : Contains [] member = rw (batch_of-full size (order ++ item ∷ []) ended) at in_batch in
           absurd (omega (arith, none.1))
       | inr goes_on ↦
           let within = rw (length_push order item) at goes_on in
-          rw (room goes_on) (ready-more runs size placed order item old mid some within ready keeps entered run member in_batch holds)
+          rw (room goes_on) (ready-more shared size placed order item old mid some within ready keeps entered edge member in_batch holds)
     ]

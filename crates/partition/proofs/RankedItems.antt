@@ -13,7 +13,7 @@ use Rattle.std.proofs.lemmas.List.FromFn.{length-range_with_len, get_or-range_wi
 use Rattle.std.proofs.lemmas.List.Sorted.{ranks_by, sorted_far, IsPermutation-map, IsPermutation-keeps, All-permutation}
 use Rattle.partition.specs.declared.ranking.Keyed.{Keyed}
 use Rattle.partition.specs.Growing.{ranks_before}
-use Rattle.partition.specs.Ranking.{IsRanking}
+use Rattle.partition.specs.Internal.Ranking.{IsRanking}
 
 -- ---- a list in another order has no number twice if it had none
 

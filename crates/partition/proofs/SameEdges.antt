@@ -1,4 +1,4 @@
--- Sides on one edge, and the edge between two points.
+-- Edge uses on one edge, and the edge between two points.
 use Rattle.std.proofs.Common.{Some, ◌≡◌, ℕ, Bool, true, false, ◌&&◌, ◌||◌, if◌then◌else◌, ℤ, refl, sym, ap, ◌∙◌, subst, ◌⊎◌, inl, inr}
 use Rattle.std.specs.Cmp.{both_ways, IsTotalOrder}
 use Rattle.std.specs.Ordering.{int_eq, int_cmp, is_le, is_eq, ordering_then, ordering_reverse, partial_ordering_then, is_some_and}
@@ -11,9 +11,9 @@ use Rattle.geom_core.specs.declared.points.Pt.{Pt}
 use Rattle.geom_core.specs.Order.{point_cmp}
 use Rattle.geom_core.specs.EdgeSum.{same_point}
 use Rattle.half_mesh.specs.declared.edges.Edge.{Edge}
-use Rattle.partition.specs.declared.sides.Side.{Side}
+use Rattle.partition.specs.declared.edge_uses.EdgeUse.{EdgeUse}
 use Rattle.partition.specs.Neighbours.{same_edge}
-use Rattle.partition.specs.Sides.{edge_of, on_one_edge, side_of}
+use Rattle.partition.specs.Internal.EdgeUses.{edge_of, on_one_edge, use_of}
 
 pub same_points : (p q : Pt) → p.x ≡ q.x → p.y ≡ q.y → p.z ≡ q.z → p ≡ q
 same_points p q x y z =
@@ -54,13 +54,13 @@ pairs_from_same a b c d e =
 same_pairs-from : (a b c d : Pt) → a ≡ b → c ≡ d → (same_point a b && same_point c d) ≡ true
 same_pairs-from a b c d e f = and_from (same_point a b) (same_point c d) (same_point-from a b e) (same_point-from c d f)
 
-pub edges_from_one : (s t : Side) → on_one_edge s t ≡ true → s.edge ≡ t.edge
+pub edges_from_one : (s t : EdgeUse) → on_one_edge s t ≡ true → s.edge ≡ t.edge
 unfolding on_one_edge
 edges_from_one s t e =
     let h = pairs_from_same s.edge.u t.edge.u s.edge.v t.edge.v e in
     same_edges s.edge t.edge h.0 h.1
 
-pub on_one_edge-from : (s t : Side) → s.edge ≡ t.edge → on_one_edge s t ≡ true
+pub on_one_edge-from : (s t : EdgeUse) → s.edge ≡ t.edge → on_one_edge s t ≡ true
 unfolding on_one_edge
 on_one_edge-from s t e =
     let u : (e : Edge) → Pt = λ e. e.u in
@@ -124,8 +124,8 @@ back e f = same_point e.0 f.1 && same_point e.1 f.0
 up_up : (e f : Pt × Pt) → is_below e.0 e.1 ≡ true → is_below f.0 f.1 ≡ true → forth e f ≡ (forth e f || back e f)
 up_up e f h i = both_ways (forth e f) (forth e f || back e f) (or_left (forth e f) (back e f)) (λ k. by_way (or_cases (forth e f) (back e f) k))
   where
-    turned : (e.0 ≡ f.1) × (e.1 ≡ f.0) → forth e f ≡ true
-    turned w =
+    renumbered : (e.0 ≡ f.1) × (e.1 ≡ f.0) → forth e f ≡ true
+    renumbered w =
         let P : Pt → Type 0 = λ p. is_below f.0 p ≡ true in
         let Q : Pt → Type 0 = λ p. is_below p e.0 ≡ true in
         let same : e.0 ≡ e.1 = both_below e.0 e.1 h (subst Q (sym w.1) (subst P (sym w.0) i)) in
@@ -133,7 +133,7 @@ up_up e f h i = both_ways (forth e f) (forth e f || back e f) (or_left (forth e 
 
     by_way : (forth e f ≡ true) ⊎ (back e f ≡ true) → forth e f ≡ true
     by_way (inl k) = k
-    by_way (inr k) = turned (pairs_from_same e.0 f.1 e.1 f.0 k)
+    by_way (inr k) = renumbered (pairs_from_same e.0 f.1 e.1 f.0 k)
 
 apart_ways : (e f : Pt × Pt) → is_below e.0 e.1 ≡ true → is_below f.0 f.1 ≡ false → forth e f ≡ true → ⊥
 apart_ways e f h i k =
@@ -188,6 +188,6 @@ edge_by-same e f false true h i = down_up e f h i
 edge_by-same e f false false h i = down_down e f h i
 
 -- edges between points are one where the points are, in either direction
-pub edge_of-same : (e f : Pt × Pt) (r s : ℕ) → on_one_edge (side_of r e) (side_of s f) ≡ same_edge e f
+pub edge_of-same : (e f : Pt × Pt) (r s : ℕ) → on_one_edge (use_of r e) (use_of s f) ≡ same_edge e f
 unfolding edge_of on_one_edge same_edge
 edge_of-same e f r s = edge_by-same e f (is_below e.0 e.1) (is_below f.0 f.1) refl refl

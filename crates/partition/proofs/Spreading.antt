@@ -46,9 +46,9 @@ spread_bits_of_low (suc k) n =
 
 -- three sevens make 21
 pub spread_bits_of_sevens : (n : ℕ) → n < 2 ^ 21 →
-    spread_bits 21 n ≡ spread_bits 7 (n % 128) + 2097152 * spread_bits 7 (n / 128 % 128) + 4398046511104 * spread_bits 7 (n / 16384)
+    spread_bits 21 n ≡ spread_bits 7 (n % 128) + 2097152 * spread_bits 7 (n / 128 % 128) + 4398046511104 * spread_bits 7 (n / 128 / 128)
 spread_bits_of_sevens n h =
-    omega (arith, spread_bits_of_two 7 14 n, spread_bits_of_two 7 7 (n / 128), spread_bits_of_low 7 n, spread_bits_of_low 7 (n / 128), ap (spread_bits 7) (shr-shr n 7 7))
+    omega (arith, spread_bits_of_two 7 14 n, spread_bits_of_two 7 7 (n / 128), spread_bits_of_low 7 n, spread_bits_of_low 7 (n / 128))
 
 -- the table has the spread bits of each number below 128
 pub table_of_spread_bits : SPREAD ≡ map (spread_bits 7) (range_with_len 0 128)

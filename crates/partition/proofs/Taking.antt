@@ -5,11 +5,11 @@ use Rattle.std.proofs.lemmas.Bool.{and_from, eq-eqb}
 use Rattle.std.proofs.lemmas.List.{get_or-replicate, length-replicate}
 use Rattle.std.proofs.lemmas.List.Elements.{All-contains, Contains-get_or}
 use Rattle.std.proofs.lemmas.List.Sums.{sum_by-cons}
-use Rattle.partition.specs.Frontiers.{AreCursors, HasLesser, IsEntered, Keeps, KeepsLeft}
+use Rattle.partition.specs.Internal.Frontiers.{AreCursors, HasLesser, HasLeastOf, Keeps, KeepsLeft}
 use Rattle.partition.specs.Growing.{is_chosen, is_grown}
-use Rattle.partition.specs.Growths.{Grows, IsPlacedBelow, SomeLeft, Touches, batch_of}
-use Rattle.partition.specs.Holders.{RunHolds}
-use Rattle.partition.specs.Runs.{IsRun}
+use Rattle.partition.specs.Internal.Growths.{Grows, IsPlacedBelow, SomeLeft, Touches, batch_of}
+use Rattle.partition.specs.Internal.EdgesOfItem.{EdgeHasItem}
+use Rattle.partition.specs.Internal.SharedEdges.{IsSharedEdge}
 use Rattle.partition.proofs.Marks.{some_left}
 use Rattle.partition.proofs.Members.{list_all-from}
 
@@ -20,9 +20,9 @@ count_by-none (suc n) =
     omega (arith, first, count_by-none n)
 
 -- nothing is placed
-pub Grows-none : (runs : List (List ℕ)) (size count : ℕ) (cursors : List ℕ) → AreCursors runs (replicate count false) cursors →
-    Grows runs size (replicate count false) [] 0 cursors []
-Grows-none runs size count cursors passed = record {
+pub Grows-none : (shared : List (List ℕ)) (size count : ℕ) (cursors : List ℕ) → AreCursors shared (replicate count false) cursors →
+    Grows shared size (replicate count false) [] 0 cursors []
+Grows-none shared size count cursors passed = record {
   marks = λ item h. get_or-replicate count item false true (omega (arith, length-replicate count false));
   counted = count_by-none count;
   below = λ item h. absurd (omega arith);
@@ -32,22 +32,22 @@ Grows-none runs size count cursors passed = record {
 }
 
 -- what is queued is in range
-pub queued_below : (runs : List (List ℕ)) (size : ℕ) (placed : List Bool) (order : List ℕ) (least : ℕ) (cursors queue : List ℕ) →
-    All (IsRun (length placed)) runs → Grows runs size placed order least cursors queue → All (λ item. item < length placed) queue
-queued_below runs size placed order least cursors queue sound grows k d h =
-    let is : Touches runs (batch_of size order) (get_or queue k d) = grows.queued (get_or queue k d) (Contains-get_or queue k d h) in
-    All-contains (λ item. item < length placed) (get_or runs is.run []) (get_or queue k d) (sound is.run [] is.with_item.0).below is.with_item.1
+pub queued_below : (shared : List (List ℕ)) (size : ℕ) (placed : List Bool) (order : List ℕ) (least : ℕ) (cursors queue : List ℕ) →
+    All (IsSharedEdge (length placed)) shared → Grows shared size placed order least cursors queue → All (λ item. item < length placed) queue
+queued_below shared size placed order least cursors queue sound grows k d h =
+    let is : Touches shared (batch_of size order) (get_or queue k d) = grows.queued (get_or queue k d) (Contains-get_or queue k d h) in
+    All-contains (λ item. item < length placed) (get_or shared is.edge []) (get_or queue k d) (sound is.edge [] is.with_item.0).below is.with_item.1
 
 -- while the order isn't whole, an item is left
-pub left_of_order : (runs : List (List ℕ)) (size : ℕ) (placed : List Bool) (order : List ℕ) (least : ℕ) (cursors queue : List ℕ) →
-    Grows runs size placed order least cursors queue → length order < length placed → SomeLeft placed
-left_of_order runs size placed order least cursors queue grows h = some_left placed (omega (arith, grows.counted))
+pub left_of_order : (shared : List (List ℕ)) (size : ℕ) (placed : List Bool) (order : List ℕ) (least : ℕ) (cursors queue : List ℕ) →
+    Grows shared size placed order least cursors queue → length order < length placed → SomeLeft placed
+left_of_order shared size placed order least cursors queue grows h = some_left placed (omega (arith, grows.counted))
 
 -- the queue may lose what it has
-pub Grows-taken : (runs : List (List ℕ)) (size : ℕ) (placed : List Bool) (order : List ℕ) (least : ℕ) (cursors queue : List ℕ) (least' : ℕ) (queue' : List ℕ) →
-    Grows runs size placed order least cursors queue → Keeps queue' queue → IsPlacedBelow placed least' →
-    Grows runs size placed order least' cursors queue'
-Grows-taken runs size placed order least cursors queue least' queue' grows keeps below = record {
+pub Grows-taken : (shared : List (List ℕ)) (size : ℕ) (placed : List Bool) (order : List ℕ) (least : ℕ) (cursors queue : List ℕ) (least' : ℕ) (queue' : List ℕ) →
+    Grows shared size placed order least cursors queue → Keeps queue' queue → IsPlacedBelow placed least' →
+    Grows shared size placed order least' cursors queue'
+Grows-taken shared size placed order least cursors queue least' queue' grows keeps below = record {
   marks = grows.marks;
   counted = grows.counted;
   below = below;
@@ -56,14 +56,14 @@ Grows-taken runs size placed order least cursors queue least' queue' grows keeps
   grown = grows.grown;
 }
 
--- a run that doesn't hold the item that was taken stays entered
-pub ready-taken : (runs : List (List ℕ)) (batch : List ℕ) (placed : List Bool) (item : ℕ) (queue queue' : List ℕ) →
-    ((run member : ℕ) → Contains batch member → RunHolds runs run member → IsEntered (get_or runs run []) placed queue) →
+-- a shared edge that doesn't have the item that was taken keeps its least item queued
+pub ready-taken : (shared : List (List ℕ)) (batch : List ℕ) (placed : List Bool) (item : ℕ) (queue queue' : List ℕ) →
+    ((edge member : ℕ) → Contains batch member → EdgeHasItem shared edge member → HasLeastOf (get_or shared edge []) placed queue) →
     KeepsLeft placed item queue queue' →
-    (run member : ℕ) → Contains batch member → RunHolds runs run member → (Contains (get_or runs run []) item → ⊥) →
-    IsEntered (get_or runs run []) placed queue'
-ready-taken runs batch placed item queue queue' ready keeps run member in_batch holds apart other among left =
-    let has : HasLesser (get_or runs run []) placed queue other = ready run member in_batch holds other among left in
+    (edge member : ℕ) → Contains batch member → EdgeHasItem shared edge member → (Contains (get_or shared edge []) item → ⊥) →
+    HasLeastOf (get_or shared edge []) placed queue'
+ready-taken shared batch placed item queue queue' ready keeps edge member in_batch holds apart other among left =
+    let has : HasLesser (get_or shared edge []) placed queue other = ready edge member in_batch holds other among left in
     record {
       lesser = has.lesser;
       queued = elim (keeps has.lesser has.queued has.left) [

@@ -1,14 +1,8 @@
 pub mod Batches
 pub mod Clusters
-pub mod Frontiers
 pub mod Groups
 pub mod Growing
-pub mod Growths
-pub mod Holders
+pub mod Internal
 pub mod Morton
 pub mod Neighbours
 pub mod OneBatch
-pub mod Ranges
-pub mod Ranking
-pub mod Runs
-pub mod Sides

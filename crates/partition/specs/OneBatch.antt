@@ -1,4 +1,4 @@
--- In which batch an item stands.
+-- In which batch an item is.
 use Rattle.std.specs.Prelude.{◌≡◌, ◌<◌, ℕ, true, List, [], length, slice_index_or}
 use Rattle.partition.specs.Growing.{is_in}
 

@@ -1,15 +1,15 @@
 ghost use Rattle.std.specs.Prelude.{All, IfOk, IfSome, IsTrue};
-ghost use Rattle.partition.specs.Runs.{IsRun};
+ghost use Rattle.partition.specs.Internal.SharedEdges.{IsSharedEdge};
 
 use crate::growing::grown_order;
-use crate::runs::Runs;
+use crate::shared_edges::SharedEdges;
 use geom_core::Memory;
 use std::alloc::Global;
 use std::test::Fail;
 
 /// Whether the items ascend, each below the limit.
-fn is_run(items: &[u32], limit: usize) -> bool
-    ensures { IsTrue result → IsRun limit items.now }
+fn is_shared_edge(items: &[u32], limit: usize) -> bool
+    ensures { IsTrue result → IsSharedEdge limit items.now }
 {
     let mut low = 0;
     for item in items {
@@ -21,35 +21,40 @@ fn is_run(items: &[u32], limit: usize) -> bool
     true
 }
 
-/// Whether each run is one of items below the count.
-fn are_runs(runs: &Runs, count: u32) -> bool
-    ensures { IsTrue result → All (IsRun count) runs.now }
+/// Whether each shared edge ascends, with items below the count.
+fn are_shared_edges(shared: &SharedEdges, count: u32) -> bool
+    ensures { IsTrue result → All (IsSharedEdge count) shared.now }
 {
-    for run in 0..runs.len() {
-        if !is_run(runs.run(run), count as usize) {
+    for edge in 0..shared.len() {
+        if !is_shared_edge(shared.items_on(edge), count as usize) {
             return false;
         }
     }
     true
 }
 
-/// The runs that stand one after another in `items`, if they may be grown from.
-fn runs_of(alloc: Global, items: &[u32], starts: &[u32], count: u32) -> Result<Option<Runs>, Memory>
-    ensures { IfOk result (λ runs. IfSome runs (λ runs. All (IsRun count) runs)) }
+/// The shared edges whose items follow one another in `items`, if they ascend and are below the count.
+fn shared_edges_of(
+    alloc: Global,
+    items: &[u32],
+    starts: &[u32],
+    count: u32,
+) -> Result<Option<SharedEdges>, Memory>
+    ensures { IfOk result (λ shared. IfSome shared (λ shared. All (IsSharedEdge count) shared)) }
 {
-    if !is_run(starts, items.len() + 1) {
+    if !is_shared_edge(starts, items.len() + 1) {
         return Ok(None);
     }
     let starts: Vec<usize> = starts.iter().map(|start| *start as usize).collect(alloc)?;
-    let runs = Runs::of(Vec::from_slice(alloc, items)?, starts);
-    if !are_runs(&runs, count) {
+    let shared = SharedEdges::of(Vec::from_slice(alloc, items)?, starts);
+    if !are_shared_edges(&shared, count) {
         return Ok(None);
     }
-    Ok(Some(runs))
+    Ok(Some(shared))
 }
 
-/// Which test, how many items, the runs one after another, where they begin and the last one ends,
-/// the batch's size, and the order.
+/// The case, the number of items, the items of the shared edges, where each edge begins and the last one ends,
+/// the size of a batch, and the order.
 type Row<'a> = (&'a str, u32, &'a [u32], &'a [u32], u32, &'a [u32]);
 
 #[test]
@@ -156,10 +161,10 @@ fn orders_grow_by_the_rule(rt: HostRuntime) -> Result<(), Fail> {
     ];
     for (name, count, items, starts, size, want) in rows {
         assert!(rt; count <= 100 && size > 0, "{name}");
-        let Some(runs) = runs_of(rt.alloc(), items, starts, count)? else {
+        let Some(shared) = shared_edges_of(rt.alloc(), items, starts, count)? else {
             panic!(rt; "{name}: no runs");
         };
-        let order = grown_order(rt.alloc(), count, &runs, size)?;
+        let order = grown_order(rt.alloc(), count, &shared, size)?;
         assert_eq!(rt; order.as_slice(), want, "{name}");
     }
     Ok(())
@@ -168,10 +173,10 @@ fn orders_grow_by_the_rule(rt: HostRuntime) -> Result<(), Fail> {
 #[test]
 fn an_order_or_want_of_memory(rt: HostRuntime) -> Result<(), Fail> {
     let (items, starts) = ([0, 1, 0, 3, 2, 3], [0, 2, 4, 6]);
-    let Ok(Some(runs)) = runs_of(rt.alloc(), &items, &starts, 4) else {
+    let Ok(Some(shared)) = shared_edges_of(rt.alloc(), &items, &starts, 4) else {
         return Ok(());
     };
-    match grown_order(rt.alloc(), 4, &runs, 3) {
+    match grown_order(rt.alloc(), 4, &shared, 3) {
         Ok(order) => assert_eq!(rt; order.as_slice(), [0, 1, 3, 2].as_slice()),
         Err(Memory) => (),
     }

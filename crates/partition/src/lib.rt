@@ -1,25 +1,31 @@
-//! Batches by growing: an order of items in which near ones stand together, cut into batches of a fixed size.
+//! Batches of near items by greedy graph growing in Morton order: triangles into clusters, clusters into groups.
 //!
-//! Items are placed one after another. The next one is the least in rank of the neighbours of the present
-//! batch that aren't placed yet; where there is none, it is the least of all that aren't placed. Only the last
-//! batch may be smaller than the others. An item's rank is its Morton key (Morton 1966), then its number.
+//! Items are placed in an order, one after another. The next one is the least in rank of the neighbours of the
+//! present batch that aren't placed yet; if there is none, it is the least of all that aren't placed. Every
+//! batch but the last is full. An item's rank is its Morton key (Morton, "A computer oriented geodetic data base
+//! and a new technique in file sequencing", 1966), then its number. Items are neighbours if they share an edge.
+//!
+//! The rule stands in `specs/Growing.antt` and knows no queue; `laws` says that it determines the order, and what
+//! follows for batches. `geom_core` has points, triangles and limits, `half_mesh` edges and the rims of clusters.
+//!
+//! Lists are only read. After `Memory` nothing is returned, and nothing has changed.
 #![tactic(auto)]
 
 mod batches;
 mod clusters;
+mod edge_uses;
+mod edges_of_item;
 mod frontiers;
 mod groups;
 mod growing;
 #[cfg(test)]
 mod growing_tests;
-mod holders;
 mod keys;
 pub mod laws;
-mod queues;
+mod min_queue;
 mod ranking;
-mod runs;
 mod shapes;
-mod sides;
+mod shared_edges;
 #[cfg(test)]
 mod tests;
 

@@ -1,6 +1,7 @@
-ghost use Rattle.std.specs.Prelude.{◌≡◌, ◌≤◌, ◌^◌, IfOk, length, map};
+ghost use Rattle.std.specs.Prelude.{◌≡◌, ◌≤◌, IfOk, length, map};
 ghost use Rattle.std.specs.List.{enumerate_from};
-ghost use Rattle.partition.specs.Ranking.{IsRanking};
+ghost use Rattle.geom_core.specs.declared.limits.TheConstants.{MAX_TRIANGLES};
+ghost use Rattle.partition.specs.Internal.Ranking.{IsRanking};
 
 use geom_core::Memory;
 use std::alloc::Global;
@@ -10,13 +11,13 @@ use std::alloc::Global;
 struct Keyed {
     /// The item's Morton key.
     key: u64,
-    /// The item's place in the list that was handed in.
+    /// The item's position in the list of keys, from 0.
     number: u32,
 }
 
 /// The numbers of the items with these keys, the least in rank first.
 pub(crate) fn ranking(alloc: Global, keys: &[u64]) -> Result<Vec<u32>, Memory>
-    requires { length keys.now ≤ 2 ^ 20 }
+    requires { length keys.now ≤ MAX_TRIANGLES }
     ensures { IfOk result (λ order. IsRanking keys.now order.items) }
 {
     let mut items = numbered(alloc, keys)?;
@@ -26,7 +27,7 @@ pub(crate) fn ranking(alloc: Global, keys: &[u64]) -> Result<Vec<u32>, Memory>
 
 /// Each key with its number.
 fn numbered(alloc: Global, keys: &[u64]) -> Result<Vec<Keyed>, Memory>
-    requires { length keys.now ≤ 2 ^ 20 }
+    requires { length keys.now ≤ MAX_TRIANGLES }
     ensures { IfOk result (λ items.
         items.items ≡ map (λ p. record { key = p.1; number = p.0 }) (enumerate_from 0 keys.now)) }
 {

@@ -41,11 +41,11 @@ impl Edges {
     }
 }
 
-/// What decides into which group a cluster goes: where it lies, and which edges it has on its rim.
+/// What decides a cluster's group: its position and the edges of its rim.
 #[derive(Debug, Drop)]
 pub struct ClusterShape {
     /// The corner of least x, y and z of the cluster's box.
     pub low: Pt,
-    /// The edges of the cluster's rim, those whose edge sum isn't 0.
+    /// The edges of the cluster's rim, each once: those whose edge sum isn't 0.
     pub rim: Edges,
 }

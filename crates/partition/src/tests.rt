@@ -1,8 +1,9 @@
 ghost use Rattle.std.specs.Prelude.{◌≡◌, ◌≤◌, IfOk, All, length};
-ghost use Rattle.partition.specs.Groups.{IsMeshShape};
-ghost use Rattle.partition.specs.Ranges.{IsMeshPoint, IsMeshTriangle};
+ghost use Rattle.geom_core.specs.Limits.{HasGridCorners, IsGridCoordinate, IsGridPoint};
+ghost use Rattle.partition.specs.Groups.{IsGridShape};
 
 use crate::{ClusterShape, Edges, cut_clusters, cut_groups, morton};
+use geom_core::limits::MAX_COORDINATE;
 use geom_core::{Memory, Nums, Pt, Tri};
 use half_mesh::Edge;
 use std::alloc::Global;
@@ -14,20 +15,27 @@ type Corner = (i32, i32, i32);
 /// A triangle of a table.
 type Corners = (Corner, Corner, Corner);
 
+/// The coordinate of a mesh nearest to a number.
+fn coordinate(n: i32) -> i32
+    ensures { IsGridCoordinate result }
+{
+    let far = MAX_COORDINATE as i32;
+    n.clamp(-far, far)
+}
+
 fn point(corner: Corner) -> Pt
-    ensures { IsMeshPoint result }
+    ensures { IsGridPoint result }
 {
     let (x, y, z) = corner;
-    let far = 1_048_576;
     Pt {
-        x: x.clamp(-far, far),
-        y: y.clamp(-far, far),
-        z: z.clamp(-far, far),
+        x: coordinate(x),
+        y: coordinate(y),
+        z: coordinate(z),
     }
 }
 
 fn triangle(corners: Corners) -> Tri
-    ensures { IsMeshTriangle result }
+    ensures { HasGridCorners result }
 {
     let (a, b, c) = corners;
     Tri {
@@ -39,7 +47,7 @@ fn triangle(corners: Corners) -> Tri
 
 fn triangles(alloc: Global, table: &[Corners]) -> Result<Vec<Tri>, Memory>
     ensures count { IfOk result (λ tris. length tris.items ≡ length table.now) }
-    ensures in_range { IfOk result (λ tris. All IsMeshTriangle tris.items) }
+    ensures range { IfOk result (λ tris. All HasGridCorners tris.items) }
 {
     let mut tris = Vec::new(alloc);
     for corners in table {
@@ -178,7 +186,7 @@ fn triangles_go_on_over_shared_edges(rt: HostRuntime) -> Result<(), Fail> {
 
 /// A cluster whose rim has these edges.
 fn shape(alloc: Global, low: Corner, rim: &[(Corner, Corner)]) -> Result<ClusterShape, Memory>
-    ensures { IfOk result IsMeshShape }
+    ensures { IfOk result IsGridShape }
 {
     let mut edges = Vec::new(alloc);
     for (u, v) in rim {
@@ -238,7 +246,7 @@ fn clusters_go_on_over_shared_edges_of_their_rims(rt: HostRuntime) -> Result<(),
 /// Clusters side by side along x, of which none shares an edge with another.
 fn row_of_shapes(alloc: Global, count: u8) -> Result<Vec<ClusterShape>, Memory>
     ensures count { IfOk result (λ shapes. length shapes.items ≡ count) }
-    ensures in_range { IfOk result (λ shapes. All IsMeshShape shapes.items) }
+    ensures range { IfOk result (λ shapes. All IsGridShape shapes.items) }
 {
     let mut shapes = Vec::new(alloc);
     for number in 0..count {

@@ -12,6 +12,6 @@ power k h =
 pub returns : goal.returns
 returns c = record {
   power = power c.args.exponent c.requires;
-  some = rw (power c.args.exponent c.requires) (power_some c.args.exponent);
-  small = rw (power c.args.exponent c.requires) (power_small c.args.exponent 18 (omega arith));
+  positive = rw (power c.args.exponent c.requires) (power_some c.args.exponent);
+  power_limit = rw (power c.args.exponent c.requires) (power_small c.args.exponent 18 (omega arith));
 }

@@ -8,6 +8,6 @@ pow-requires c = let h : 10 ^ c.args.exponent ≤ 10 ^ 23 = power_small c.args.e
 pub returns : goal.returns
 returns c = record {
   power = c.pow.ensures;
-  some = rw c.pow.ensures (power_some c.args.exponent);
-  small = rw c.pow.ensures (power_small c.args.exponent 23 (omega arith));
+  positive = rw c.pow.ensures (power_some c.args.exponent);
+  power_limit = rw c.pow.ensures (power_small c.args.exponent 23 (omega arith));
 }

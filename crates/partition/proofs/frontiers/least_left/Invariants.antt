@@ -1,5 +1,5 @@
 use Rattle.std.proofs.Common.{◌-◌, length}
-use Rattle.partition.specs.Frontiers.{IsPassed}
+use Rattle.partition.specs.Internal.Frontiers.{IsPassed}
 use Rattle.partition.proofs.frontiers.least_left.Given as goal
 
 abbrev pub invariant-loop-item : goal.invariant-loop-item

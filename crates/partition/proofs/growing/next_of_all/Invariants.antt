@@ -1,5 +1,5 @@
 use Rattle.std.proofs.Common.{◌-◌, length}
-use Rattle.partition.specs.Growths.{IsPlacedBelow}
+use Rattle.partition.specs.Internal.Growths.{IsPlacedBelow}
 use Rattle.partition.proofs.growing.next_of_all.Given as goal
 
 abbrev pub invariant-loop-item : goal.invariant-loop-item

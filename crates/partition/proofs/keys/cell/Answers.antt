@@ -3,6 +3,6 @@ use Rattle.std.proofs.lemmas.Int.{ints, to_z-of_z}
 use Rattle.partition.specs.Morton.{cell_of}
 use Rattle.partition.proofs.keys.cell.Goals as goal
 
-pub returns-clause-value : goal.returns-clause-value
+pub returns-clause-cell : goal.returns-clause-cell
 unfolding cell_of
-returns-clause-value c = grind (arith, ints, to_z-of_z)
+returns-clause-cell c = grind (arith, ints, to_z-of_z)

@@ -5,9 +5,9 @@ use Rattle.geom_core.specs.Boxes.{low_of}
 use Rattle.partition.proofs.SameEdges.{same_points}
 use Rattle.partition.proofs.keys.low_between.Goals as goal
 
-pub returns-clause-value : goal.returns-clause-value
+pub returns-clause-corner : goal.returns-clause-corner
 unfolding low_of
-returns-clause-value c =
+returns-clause-corner c =
     let px : FitsSigned w32 c.args.p.x = search rules in
     let py : FitsSigned w32 c.args.p.y = search rules in
     let pz : FitsSigned w32 c.args.p.z = search rules in
@@ -17,8 +17,8 @@ returns-clause-value c =
     let x : FitsSigned w32 c.lesser.result = search rules in
     let y : FitsSigned w32 c.lesser-2.result = search rules in
     let z : FitsSigned w32 c.lesser-3.result = search rules in
-    let ex = simp to_z-of_z at c.lesser.ensures.value in
-    let ey = simp to_z-of_z at c.lesser-2.ensures.value in
-    let ez = simp to_z-of_z at c.lesser-3.ensures.value in
+    let ex = simp to_z-of_z at c.lesser.ensures.lesser in
+    let ey = simp to_z-of_z at c.lesser-2.ensures.lesser in
+    let ez = simp to_z-of_z at c.lesser-3.ensures.lesser in
     let low : Pt = record { x = to_z w32 (of_z w32 c.lesser.result); y = to_z w32 (of_z w32 c.lesser-2.result); z = to_z w32 (of_z w32 c.lesser-3.result) } in
     same_points low (low_of c.args.p c.args.q) (to_z-of_z w32 c.lesser.result x ∙ ex) (to_z-of_z w32 c.lesser-2.result y ∙ ey) (to_z-of_z w32 c.lesser-3.result z ∙ ez)

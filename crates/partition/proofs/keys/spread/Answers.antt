@@ -11,16 +11,16 @@ overflow_add-result c =
     omega (arith, table-below (c.args.bits % 128) (omega arith), table-below (c.args.bits / 128 % 128) (omega arith))
 
 pub overflow_mul-result-2 : goal.overflow_mul-result-2
-overflow_mul-result-2 c = omega (arith, table-below (c.args.bits / 16384) (omega arith))
+overflow_mul-result-2 c = omega (arith, table-below (c.args.bits / 128 / 128) (omega arith))
 
 pub overflow_add-result-2 : goal.overflow_add-result-2
 overflow_add-result-2 c =
-    omega (arith, table-below (c.args.bits % 128) (omega arith), table-below (c.args.bits / 128 % 128) (omega arith), table-below (c.args.bits / 16384) (omega arith))
+    omega (arith, table-below (c.args.bits % 128) (omega arith), table-below (c.args.bits / 128 % 128) (omega arith), table-below (c.args.bits / 128 / 128) (omega arith))
 
-pub returns-clause-value : goal.returns-clause-value
-returns-clause-value c =
-    omega (arith, spread_bits_of_sevens c.args.bits c.requires, table_at (c.args.bits % 128) (omega arith), table_at (c.args.bits / 128 % 128) (omega arith), table_at (c.args.bits / 16384) (omega arith))
+pub returns-clause-spread : goal.returns-clause-spread
+returns-clause-spread c =
+    omega (arith, spread_bits_of_sevens c.args.bits c.requires, table_at (c.args.bits % 128) (omega arith), table_at (c.args.bits / 128 % 128) (omega arith), table_at (c.args.bits / 128 / 128) (omega arith))
 
-pub returns-clause-bound : goal.returns-clause-bound
-returns-clause-bound c =
-    omega (arith, table-below (c.args.bits % 128) (omega arith), table-below (c.args.bits / 128 % 128) (omega arith), table-below (c.args.bits / 16384) (omega arith))
+pub returns-clause-spread_limit : goal.returns-clause-spread_limit
+returns-clause-spread_limit c =
+    omega (arith, table-below (c.args.bits % 128) (omega arith), table-below (c.args.bits / 128 % 128) (omega arith), table-below (c.args.bits / 128 / 128) (omega arith))

@@ -1,14 +1,15 @@
-use Rattle.partition.proofs.Chunks.{batch_full, batch_most, batch_some, batches_joined}
+use Rattle.partition.proofs.BatchLaws.{full_of_items, full_of_order, no_more_batches}
+use Rattle.partition.proofs.BatchLists.{concat-batches_of}
 use Rattle.partition.proofs.laws.batches_are_full_but_the_last.Goals as goal
 
 pub returns-clause-joined : goal.returns-clause-joined
-returns-clause-joined c = batches_joined
+returns-clause-joined c = concat-batches_of
 
-pub returns-clause-full : goal.returns-clause-full
-returns-clause-full c = batch_full
+pub returns-clause-full_of_order : goal.returns-clause-full_of_order
+returns-clause-full_of_order c = full_of_order
 
-pub returns-clause-some : goal.returns-clause-some
-returns-clause-some c = batch_some
+pub returns-clause-full_of_items : goal.returns-clause-full_of_items
+returns-clause-full_of_items c = full_of_items
 
-pub returns-clause-most : goal.returns-clause-most
-returns-clause-most c = batch_most
+pub returns-clause-batch_limit : goal.returns-clause-batch_limit
+returns-clause-batch_limit c = no_more_batches

@@ -1,17 +1,18 @@
-use Rattle.std.proofs.Common.{arith}
+use Rattle.std.proofs.Common.{length, slice_index}
+use Rattle.std.specs.List.{concat}
+use Rattle.partition.specs.Neighbours.{are_neighbours}
+use Rattle.partition.proofs.BatchLaws.{numbers_below}
 use Rattle.partition.proofs.Chunks.{in_one_batch}
 use Rattle.partition.proofs.Determined.{is_grown-is}
-use Rattle.partition.proofs.OnePlace.{next_at, placed_once}
+use Rattle.partition.proofs.Permuted.{grown_permutation}
 use Rattle.partition.proofs.laws.each_item_is_in_one_batch.Goals as goal
 
-pub returns-clause-once : goal.returns-clause-once
-returns-clause-once c n size key near order grown item below =
-    placed_once n key near size order (is_grown-is n key near size order grown) item below
+pub returns-clause-permutation : goal.returns-clause-permutation
+returns-clause-permutation c keys edges size batches b =
+    grown_permutation (length keys) size (slice_index keys) (are_neighbours edges) (concat batches) b.grown
 
-pub returns-clause-alone : goal.returns-clause-alone
-returns-clause-alone c n size key near order grown place within =
-    let is = is_grown-is n key near size order grown in
-    (next_at n key near size order is place (omega (arith, is.whole))).below
+pub returns-clause-number_range : goal.returns-clause-number_range
+returns-clause-number_range c = numbers_below
 
 pub returns-clause-one_batch : goal.returns-clause-one_batch
 returns-clause-one_batch c n size key near order some grown item below =

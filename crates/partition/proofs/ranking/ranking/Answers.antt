@@ -1,7 +1,7 @@
 use Rattle.std.proofs.Common.{◌≡◌, IsPermutation, List, map, subst, sym, ◌∙◌, ap}
 use Rattle.std.proofs.lemmas.Result.{IfOk-weaker}
 use Rattle.partition.specs.declared.ranking.Keyed.{Keyed}
-use Rattle.partition.specs.Ranking.{IsRanking}
+use Rattle.partition.specs.Internal.Ranking.{IsRanking}
 use Rattle.partition.proofs.RankedItems.{ranking_from_sorted}
 use Rattle.partition.proofs.ranking.ranking.Goals as goal
 

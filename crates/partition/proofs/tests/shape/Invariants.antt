@@ -1,6 +1,6 @@
 use Rattle.std.proofs.Common.{All}
-use Rattle.partition.specs.Ranges.{IsMeshEdge}
+use Rattle.partition.specs.Groups.{IsGridEdge}
 use Rattle.partition.proofs.tests.shape.Given as goal
 
 abbrev pub invariant-loop-u : goal.invariant-loop-u
-invariant-loop-u l = All IsMeshEdge l.edges.items
+invariant-loop-u l = All IsGridEdge l.edges.items

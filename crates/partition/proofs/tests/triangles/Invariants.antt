@@ -1,6 +1,6 @@
 use Rattle.std.proofs.Common.{◌≡◌, length, All}
-use Rattle.partition.specs.Ranges.{IsMeshTriangle}
+use Rattle.geom_core.specs.Limits.{HasGridCorners}
 use Rattle.partition.proofs.tests.triangles.Given as goal
 
 abbrev pub invariant-loop-corners : goal.invariant-loop-corners
-invariant-loop-corners l = (length l.tris.items ≡ l.corners-index) × All IsMeshTriangle l.tris.items
+invariant-loop-corners l = (length l.tris.items ≡ l.corners-index) × All HasGridCorners l.tris.items

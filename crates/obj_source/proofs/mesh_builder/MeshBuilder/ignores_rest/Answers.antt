@@ -1,9 +1,9 @@
 use Rattle.obj_source.proofs.Standing.{stands_settled, settled_passed, settled_vertex}
 use Rattle.obj_source.proofs.mesh_builder.MeshBuilder.ignores_rest.Goals as goal
 
-pub returns-in-Skipping : goal.returns-in-Skipping
-returns-in-Skipping c mesh_so_far line words more settled stands =
-    stands_settled c.args.self.now mesh_so_far line words more (settled_passed c.args.self.now c.in-Skipping.is) stands
+pub returns-in-Passed : goal.returns-in-Passed
+returns-in-Passed c mesh_so_far line words more settled stands =
+    stands_settled c.args.self.now mesh_so_far line words more (settled_passed c.args.self.now c.in-Passed.is) stands
 
 pub returns-in-Vertex : goal.returns-in-Vertex
 returns-in-Vertex c mesh_so_far line words more settled stands =

@@ -1,0 +1,11 @@
+use Rattle.std.proofs.Common.{◌++◌, flat_map, length}
+use Rattle.half_mesh.specs.Terms.{AddUpAlike, AreSmall, terms_of}
+use Rattle.half_mesh.proofs.rims.list_uncancelled.Given as goal
+
+-- the terms so far, with those of the triangles that are left, have the sums of all triangles
+abbrev pub invariant-loop-rest : goal.invariant-loop-rest
+invariant-loop-rest l =
+    AreSmall l.terms.items × AddUpAlike (l.terms.items ++ flat_map terms_of l.rest) (flat_map terms_of l.tris)
+
+abbrev pub decreases-loop-rest : goal.decreases-loop-rest
+decreases-loop-rest l = length l.rest

@@ -1,7 +1,0 @@
-use Rattle.std.proofs.Common.{◌≡◌, map, take}
-use Rattle.geom_core.specs.EdgeSum.{edges_of}
-use Rattle.partition.specs.Sides.{in_order, sides_from}
-use Rattle.partition.proofs.clusters.triangle_sides.Given as goal
-
-abbrev pub invariant-loop-place : goal.invariant-loop-place
-invariant-loop-place l = l.sides.items ≡ sides_from 0 (in_order (map edges_of l.tris) (take l.place l.order))

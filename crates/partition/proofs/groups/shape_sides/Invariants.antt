@@ -1,7 +1,0 @@
-use Rattle.std.proofs.Common.{◌≡◌, map, take}
-use Rattle.partition.specs.Groups.{rim_edges}
-use Rattle.partition.specs.Sides.{in_order, sides_from}
-use Rattle.partition.proofs.groups.shape_sides.Given as goal
-
-abbrev pub invariant-loop-place : goal.invariant-loop-place
-invariant-loop-place l = l.sides.items ≡ sides_from 0 (in_order (map rim_edges l.shapes) (take l.place l.order))

@@ -1,7 +1,0 @@
-use Rattle.std.proofs.Common.{◌≡◌, filter}
-use Rattle.std.specs.List.{range_with_len}
-use Rattle.partition.specs.Sides.{begins_edge}
-use Rattle.partition.proofs.sides.starts_of.Given as goal
-
-abbrev pub invariant-loop-place : goal.invariant-loop-place
-invariant-loop-place l = l.starts.items ≡ filter (begins_edge l.sides) (range_with_len 0 l.place)
