@@ -5,8 +5,8 @@ use Rattle.std.specs.Str.{byte}
 use Rattle.std.specs.Result.{result_ok}
 use Rattle.std.proofs.Common.{ap}
 use Rattle.geom_core.specs.Camera.{View}
-use Rattle.geode_tool.specs.declared.cameras.BadCamera.{BadCamera}
-use Rattle.geode_tool.specs.CameraNumbers.{first_bad, view_of_numbers}
+use Rattle.view_camera.specs.declared.cameras.BadCamera.{BadCamera}
+use Rattle.view_camera.specs.CameraNumbers.{first_bad, view_of_numbers}
 use Rattle.geode_tool.specs.Words.{numbers_of, fifteen, camera}
 
 abbrev numbers_in : List ℕ → Option (List ℤ)

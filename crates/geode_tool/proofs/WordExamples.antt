@@ -2,7 +2,7 @@
 use Rattle.std.specs.Prelude.{◌≡◌, ℕ, ◌∷◌, [], List, Some, None, pos, negsuc, codes, refl}
 use Rattle.geom_core.specs.Camera.{View}
 use Rattle.geode_tool.specs.declared.commands.DrawRequest.{DrawRequest}
-use Rattle.geode_tool.specs.CameraNumbers.{first_bad, view_of_numbers}
+use Rattle.view_camera.specs.CameraNumbers.{first_bad, view_of_numbers}
 use Rattle.geode_tool.specs.Words.{whole_number, signed_number, side, camera, draw_words}
 
 abbrev draw : List ℕ
@@ -120,12 +120,3 @@ camera-minus_zero = refl
 pub camera-focal_0 : camera (codes "0,33554432,0,0,4096,0,16384,0,0,0,0,16384,0,-16384,0") ≡ None
 unfolding camera signed_number whole_number first_bad view_of_numbers
 camera-focal_0 = refl
-
--- of the numbers out of range the first counts
-pub first_bad-two : first_bad (pos 4 ∷ pos 16383 ∷ negsuc 0 ∷ []) ≡ Some 1
-unfolding first_bad
-first_bad-two = refl
-
-pub first_bad-row : first_bad (pos 4 ∷ pos 16384 ∷ pos 65535 ∷ pos 16777216 ∷ negsuc 16777215 ∷ pos 0 ∷ pos 16385 ∷ []) ≡ Some 6
-unfolding first_bad
-first_bad-row = refl

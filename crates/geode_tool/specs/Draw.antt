@@ -13,7 +13,7 @@ use Rattle.geode_tool.specs.declared.faults.Done.TheVariants.{Drawn}
 use Rattle.geode_tool.specs.declared.faults.Fault.{Fault}
 use Rattle.geode_tool.specs.declared.faults.Fault.TheVariants.{Usage, ReadFault, TooLong, BadObj, TooMany, Empty, BadJournal, Illegal, WriteFault, Memory}
 use Rattle.geode_tool.specs.Faults.{fault_of_obj}
-use Rattle.geode_tool.specs.PictureText.{picture_text_of}
+use Rattle.report_text.specs.PictureText.{picture_text_of}
 
 -- triangles are drawn; a fault of the mesh is the fault of the command
 abbrev pub drawn_or_fault : Result (List Tri) ObjFault → Result Done Fault

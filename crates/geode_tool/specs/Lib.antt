@@ -1,14 +1,8 @@
 pub mod Audit
-pub mod CameraFields
-pub mod CameraNumbers
 pub mod Commands
 pub mod Draw
 pub mod Faults
 pub mod Outputs
-pub mod PictureText
-pub mod Projections
-pub mod RotationRows
 pub mod Statuses
 pub mod Texts
-pub mod ViewPoints
 pub mod Words

@@ -9,7 +9,7 @@ use Rattle.geom_core.specs.Limits.{is_side}
 use Rattle.geode_tool.specs.declared.commands.Command.{Command}
 use Rattle.geode_tool.specs.declared.commands.Command.TheVariants.{Draw, Audit}
 use Rattle.geode_tool.specs.declared.commands.DrawRequest.{DrawRequest}
-use Rattle.geode_tool.specs.CameraNumbers.{first_bad, view_of_numbers}
+use Rattle.view_camera.specs.CameraNumbers.{first_bad, view_of_numbers}
 
 infixl 10 ◌>>=◌
 abbrev pub ◌>>=◌ : {A B : Type 0} → Option A → (A → Option B) → Option B

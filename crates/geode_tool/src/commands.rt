@@ -9,9 +9,9 @@ ghost use Rattle.geode_tool.specs.Words.{draw_words, whole_number, signed_number
 ghost use Rattle.geode_tool.specs.Words.{is_numeral, numbers_of, fifteen};
 ghost use Rattle.geode_tool.specs.declared.commands.DrawRequest.{DrawRequest};
 
-use crate::cameras::Camera;
 use geom_core::Size;
 use geom_core::limits::MAX_SIDE;
+use view_camera::Camera;
 
 /// The most digits of a width or a height in a command line; leading zeros count.
 const SIDE_DIGITS: usize = 10;

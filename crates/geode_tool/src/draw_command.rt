@@ -10,10 +10,10 @@ ghost use Rattle.geode_tool.specs.declared.commands.Command.TheVariants as Comma
 use crate::commands::DrawRequest;
 use crate::draw_mesh::picture_of;
 use crate::faults::{Done, Fault};
-use crate::picture_texts::picture_text;
 use crate::write_output::write_whole;
 use geom_core::limits::STEPS_PER_UNIT;
 use obj_source::read_obj;
+use report_text::picture_text;
 use span_io::{Sink, Source};
 use std::alloc::Global;
 

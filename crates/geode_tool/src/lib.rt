@@ -8,14 +8,10 @@
 mod audit_command;
 #[cfg(test)]
 mod audit_tests;
-mod cameras;
-mod canvases;
 mod commands;
 mod draw_command;
 mod draw_mesh;
 mod faults;
-mod picture_texts;
-mod projections;
 mod read_input;
 #[cfg(test)]
 mod tests;

@@ -1,7 +1,7 @@
 use Rattle.std.proofs.Common.{◌≡◌, ℕ, List, ◌%◌, ◌∙◌, length, ap}
 use Rattle.std.proofs.Math.Nat.{mul-mod_right}
 use Rattle.geom_core.specs.Picture.{items_of, picture}
-use Rattle.geode_tool.specs.PictureText.{picture_text_of}
+use Rattle.report_text.specs.PictureText.{picture_text_of}
 use Rattle.geode_tool.specs.Draw.{requested_text}
 use Rattle.geode_tool.proofs.DrawAnswers.{obj_refused}
 use Rattle.geode_tool.proofs.draw_command.drawn_text.Goals as goal

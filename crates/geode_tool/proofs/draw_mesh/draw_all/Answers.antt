@@ -6,13 +6,13 @@ use Rattle.geode_tool.proofs.draw_mesh.draw_all.Goals as goal
 
 pub loop-number-preserved : goal.loop-number-preserved
 loop-number-preserved g c = (
-  c.draw_tri.ensures.same_size ∙ c.loop-number.invariant.0,
+  c.draw_triangle.ensures.same_size ∙ c.loop-number.invariant.0,
   λ rest before shown.
       let request = c.args.request.now in
       let draws = drawn request.camera request.size in
       let tris = c.args.tris.now in
       let so_far : List (ℕ × ℕ) = before ++ flat_map draws (items_of (take c.loop-number.number tris)) in
-      subst (g.T.PixelSink.shows c.draw_tri.new.to rest)
+      subst (g.T.PixelSink.shows c.draw_triangle.new.to rest)
       (drawn-more draws before tris c.loop-number.number _ c.loop-number-test.true)
-      (c.draw_tri.ensures.shown rest so_far (c.loop-number.invariant.1 rest before shown)),
+      (c.draw_triangle.ensures.shown rest so_far (c.loop-number.invariant.1 rest before shown)),
 )

@@ -1,8 +1,0 @@
--- what the numbers from here on give is what all give
-use Rattle.std.proofs.Common.{◌≡◌, drop}
-use Rattle.geode_tool.specs.CameraNumbers.{ranges, first_outside}
-use Rattle.geode_tool.proofs.cameras.first_out_of_range.Given as goal
-
-abbrev pub invariant-loop-field : goal.invariant-loop-field
-invariant-loop-field l =
-    first_outside l.field (drop l.field ranges) (drop l.field l.numbers) ≡ first_outside 0 ranges l.numbers

@@ -1,0 +1,9 @@
+mod Bounds
+mod CameraRanges
+mod DotFromEye
+mod Examples
+mod MadeCameras
+mod OffScreen
+mod OnScreen
+mod Ranges
+mod Spots

@@ -1,0 +1,3 @@
+pub mod CameraFields
+pub mod Projections
+pub mod RotationRows

@@ -1,0 +1,3 @@
+pub mod CameraNumbers
+pub mod Internal
+pub mod ViewPoints
