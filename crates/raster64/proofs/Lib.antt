@@ -1,2 +1,4 @@
+mod Examples
 pub mod Bounds
+pub mod SpanLaws
 pub mod Stretches

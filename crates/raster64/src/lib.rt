@@ -7,6 +7,7 @@
 
 mod depths;
 mod edges;
+pub mod laws;
 mod ranges;
 mod raster;
 #[cfg(test)]

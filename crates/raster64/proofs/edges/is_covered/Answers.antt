@@ -1,4 +1,4 @@
-use Rattle.std.proofs.Common.{◌≡◌, ◌≤◌, ◌^◌, ℕ, ℤ, pos, ◌+ℤ◌, nat_eq, FitsSigned, unsigned_abs, to_z, of_z, w32, w64, sym, ap, ◌∙◌, lit<, arith}
+use Rattle.std.proofs.Common.{◌≡◌, ◌≤◌, ℕ, ℤ, pos, ◌+ℤ◌, nat_eq, FitsSigned, unsigned_abs, to_z, of_z, w32, sym, ap, ◌∙◌, lit<, arith}
 use Rattle.std.proofs.lemmas.Int.{ints, to_z-of_z}
 use Rattle.std.specs.Ordering.{int_eq}
 use Rattle.geom_core.specs.Winding.{winding}
