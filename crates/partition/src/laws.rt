@@ -90,7 +90,7 @@ pub fn clusters_have_each_triangle_once()
 {}
 
 /// What the groups have of a level's clusters, joined, is all of it in another order, whatever list each cluster
-/// stands for. Each group but the last is full, and the last one has a cluster.
+/// has. Each group but the last is full, and the last one has a cluster.
 pub fn groups_have_each_cluster_once<T>()
     ensures lists { (shapes : List ClusterShape) (groups : List (List ℕ)) (lists : List (List T)) →
         AreGroups shapes groups → length lists ≡ length shapes →

@@ -5,7 +5,7 @@
 //! batch but the last is full. An item's rank is its Morton key (Morton, "A computer oriented geodetic data base
 //! and a new technique in file sequencing", 1966), then its number. Items are neighbours if they share an edge.
 //!
-//! The rule stands in `specs/Growing.antt` and knows no queue; `laws` says that it determines the order, and what
+//! The rule is in `specs/Growing.antt` and knows no queue; `laws` says that it determines the order, and what
 //! follows for batches. `geom_core` has points, triangles and limits, `half_mesh` edges and the rims of clusters.
 //!
 //! Lists are only read. After `Memory` nothing is returned, and nothing has changed.

@@ -1,9 +1,10 @@
 //! Bytes in and out: sources that give bytes, sinks that take them, and the causes of what fails.
 //!
 //! A call may give or take fewer bytes than it is offered, and it may fail; it answers that it failed
-//! exactly where it counted a fault. Where a source or a sink tells its bytes, the contracts say
-//! which ones moved. The forms in memory tell theirs, and fail exactly where they are told to; the
-//! forms over the standard library's readers and writers tell nothing, and count what fails.
+//! exactly where it counted a fault. If the bytes of a source or a sink are known, the contracts say
+//! which ones moved. The bytes of the forms in memory are known, and they fail exactly in the
+//! planned calls; those of the forms over the standard library's readers and writers are not known, and each
+//! failure is counted.
 //!
 //! `put_all` writes a whole list of bytes; `read_into` feeds the bytes of a source to a consumer, and
 //! `read_text` gathers them. No other loop over reads or writes is needed. A source of another kind

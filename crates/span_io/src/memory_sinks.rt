@@ -9,7 +9,7 @@ use geom_core::Memory;
 use std::alloc::Global;
 use std::marker::Model;
 
-/// A sink into memory, which tells what was written, and fails exactly where it is told to or where
+/// A sink into memory: what was written is known, and it fails exactly in the planned calls or when
 /// its room is used up.
 ///
 /// One write takes as many bytes as are offered, `most` and the room left allow. The room is taken
@@ -40,8 +40,8 @@ impl Model for MemorySink {
 }
 
 impl MemorySink {
-    /// An empty sink with room for so many bytes, of which one write takes at most `most`. The calls
-    /// whose numbers, from 1, stand in `failing` fail; a `finish` is a call as a write is. It isn't
+    /// An empty sink with room for `room` bytes, of which one write takes at most `most`. The calls
+    /// whose numbers, from 1, are in `failing` fail; a `finish` is a call as a write is. It isn't
     /// flushed yet.
     pub fn of(alloc: Global, room: u64, most: u32, failing: Vec<u64>) -> Result<MemorySink, Memory>
         requires room_fits { room ≤ 2 ^ 32 }

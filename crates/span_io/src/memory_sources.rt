@@ -7,7 +7,7 @@ use crate::failure_plan::FailurePlan;
 use crate::{Got, Source};
 use std::marker::Model;
 
-/// A source over bytes in memory, which tells them, and fails exactly where it is told to.
+/// A source over bytes in memory: they are known, and it fails exactly in the planned calls.
 ///
 /// One read gives as many bytes as the buffer, `most` and the bytes left allow.
 #[derive(Drop)]
@@ -33,7 +33,7 @@ impl Model for MemorySource {
 
 impl MemorySource {
     /// A source of these bytes, which gives at most `most` of them in one read. The reads whose
-    /// numbers, from 1, stand in `failing` fail.
+    /// numbers, from 1, are in `failing` fail.
     pub fn of(bytes: Vec<u8>, most: u32, failing: Vec<u64>) -> MemorySource
         requires { 1 ≤ most }
         ensures { result ≡ record {
