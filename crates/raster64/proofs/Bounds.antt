@@ -1,7 +1,9 @@
 -- Sums and differences of bounded integers, and the words that hold them.
-use Rattle.std.proofs.Common.{◌≡◌, ℕ, ◌+◌, ◌≤◌, ◌<◌, ◌^◌, ℤ, ◌+ℤ◌, ◌-ℤ◌, to_z, of_z, w64, unsigned_abs, lit<, arith, rules}
+use Rattle.std.proofs.Common.{◌≡◌, ℕ, ◌+◌, ◌*◌, ◌≤◌, ◌<◌, ◌^◌, ℤ, ◌+ℤ◌, ◌-ℤ◌, to_z, of_z, w64, unsigned_abs, lit<, arith, rules}
+use Rattle.std.proofs.Math.Nat.{mul-le-mul}
+use Rattle.std.proofs.lemmas.Nat.{mul-add-lt}
 use Rattle.std.proofs.lemmas.Int.{ints, to_z-of_z, fits_signed_from_abs}
-use Rattle.geom_core.specs.Limits.{IsScreenCoordinate, IsSpot, IsPicture}
+use Rattle.geom_core.specs.Limits.{IsScreenCoordinate, IsSpot, IsDepth, IsPicture}
 use Rattle.geom_core.specs.declared.limits.TheConstants.{MAX_SIDE, MAX_DEPTH}
 use Rattle.geom_core.specs.declared.screens.Size.{Size}
 use Rattle.geom_core.specs.declared.screens.Spot.{Spot}
@@ -32,8 +34,11 @@ spot_x s h = search rules
 pub spot_y : (s : Spot) → IsSpot s → IsScreenCoordinate s.y
 spot_y s h = search rules
 
-pub spot_z : (s : Spot) → IsSpot s → s.z ≤ MAX_DEPTH
+pub spot_z : (s : Spot) → IsSpot s → IsDepth s.z
 spot_z s h = search rules
+
+pub depth_limit : (z : ℕ) → IsDepth z → z ≤ MAX_DEPTH
+depth_limit z h = search rules
 
 -- the sides of a picture
 pub picture_sides : (size : Size) → IsPicture size → (0 < size.width) × (size.width ≤ MAX_SIDE) × (0 < size.height) × (size.height ≤ MAX_SIDE)
@@ -53,3 +58,11 @@ computed_add w a b n p q r =
     let e : to_z w (of_z w a) ≡ a = held_by w a n p (omega arith) in
     let f : to_z w (of_z w b) ≡ b = held_by w b n q (omega arith) in
     rw (e, f) (held_by w (a +ℤ b) (n + n) (within_add a b n n (n + n) p q (omega arith)) r)
+
+-- the number of a pixel of a picture
+pub pixel_limit : (size : Size) (row column : ℕ) → IsPicture size → row < size.height → column < size.width →
+    row * size.width + column < 2 ^ 20
+pixel_limit size row column picture in_row in_column =
+    let sides = picture_sides size picture in
+    let box : size.width * size.height ≤ MAX_SIDE * MAX_SIDE = mul-le-mul sides.1 sides.3 in
+    omega (arith, mul-add-lt row size.width column size.height in_row in_column)

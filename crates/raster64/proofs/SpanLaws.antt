@@ -14,16 +14,16 @@ use Rattle.raster64.specs.Span.{crossing_column, is_between, is_in_span_by, is_i
 
 -- ---- tests
 
-less_true : (p q : ℤ) → p <ℤ q → int_lt p q ≡ true
+pub less_true : (p q : ℤ) → p <ℤ q → int_lt p q ≡ true
 less_true p q h = grind (arith, ints)
 
-less_false : (p q : ℤ) → q ≤ℤ p → int_lt p q ≡ false
+pub less_false : (p q : ℤ) → q ≤ℤ p → int_lt p q ≡ false
 less_false p q h = grind (arith, ints)
 
-at_most_true : (p q : ℤ) → p ≤ℤ q → int_le p q ≡ true
+pub at_most_true : (p q : ℤ) → p ≤ℤ q → int_le p q ≡ true
 at_most_true p q h = grind (arith, ints)
 
-at_most_false : (p q : ℤ) → q <ℤ p → int_le p q ≡ false
+pub at_most_false : (p q : ℤ) → q <ℤ p → int_le p q ≡ false
 at_most_false p q h = grind (arith, ints)
 
 -- ---- one edge

@@ -1,18 +1,22 @@
 -- The words of a stretch of pixels: of two stretches in a row, of one without a covered pixel, of one
 -- pixel, and of a stretch within a row or a picture.
-use Rattle.std.proofs.Common.{◌≡◌, ◌<◌, ◌≤◌, ◌+◌, ◌-◌, ◌*◌, ◌/◌, ◌%◌, ℕ, zero, suc, Bool, true, false, not, [], ◌∷◌, ◌++◌, filter, ℤ, pos, ◌≤ℤ◌, ◌<ℤ◌, refl, sym, ap, ◌∙◌, zero-add, arith}
+use Rattle.std.proofs.Common.{◌≡◌, ◌<◌, ◌≤◌, ◌+◌, ◌-◌, ◌*◌, ◌/◌, ◌%◌, ℕ, zero, suc, Bool, true, false, not, [], ◌∷◌, ◌++◌, List, map, filter, ⊎_elim, ℤ, pos, ◌≤ℤ◌, ◌<ℤ◌, refl, sym, ap, ◌∙◌, zero-add, arith}
+use Rattle.std.proofs.lemmas.Bool.{cases_lt}
 use Rattle.std.proofs.lemmas.List.{map-append, append-nil}
 use Rattle.std.proofs.lemmas.List.Elements.{filter-append}
 use Rattle.std.proofs.lemmas.Nat.{mod-mul-add, div-mul-add, div-add-mod'}
 use Rattle.std.proofs.Math.Nat.{mul_comm, mul-le-mul_right, div-lt_iff_lt-mul, le-div_iff_mul-le}
 use Rattle.std.specs.List.{range_with_len}
 use Rattle.std.specs.Ordering.{int_eq}
-use Rattle.geom_core.specs.Winding.{winding}
+use Rattle.geom_core.specs.Winding.{edge_function, winding}
 use Rattle.geom_core.specs.Depth.{depth}
 use Rattle.geom_core.specs.Coverage.{covers, word_of, word_at}
+use Rattle.geom_core.proofs.DivisorLaws.{divisor-is, winding-flat}
 use Rattle.geom_core.proofs.WindingLaws.{winding-above, winding-below, winding-left, winding-right}
 use Rattle.raster64.specs.declared.raster.ScreenTriangle.{ScreenTriangle}
-use Rattle.raster64.specs.Internal.Centres.{centre}
+use Rattle.raster64.specs.Internal.Centres.{centre, AreInRange}
+use Rattle.raster64.specs.Span.{is_in_span}
+use Rattle.raster64.proofs.SpanLaws.{winding-span}
 use Rattle.raster64.specs.Internal.Raster.{is_covered, draw_at, words_in}
 
 range-append : (a m n : ℕ) → range_with_len a (m + n) ≡ range_with_len a m ++ range_with_len (a + m) n
@@ -83,22 +87,26 @@ Before at a b c = (at <ℤ a) × (at <ℤ b) × (at <ℤ c)
 abbrev After : ℤ → ℤ → ℤ → ℤ → Type 0
 After at a b c = (a ≤ℤ at) × (b ≤ℤ at) × (c ≤ℤ at)
 
--- no pixel of a row before the first column is covered
-pub words_in-left : (d : ScreenTriangle) (row first : ℕ) → first ≤ d.size.width →
-    ((k : ℕ) → k < first → Before (centre k) d.a.x d.b.x d.c.x) → words_in d (row * d.size.width) first ≡ []
-words_in-left d row first fits before =
-    words_in-none d (row * d.size.width) first (λ k h.
-    let b = before k h in
-    missed d row k (omega arith) (winding-left d.a d.b d.c (centre k) (centre row) b.0 b.1 b.2))
+-- the column of a row is covered where its centre is in the span of the row's centre
+pub is_covered-span : (d : ScreenTriangle) (row column : ℕ) → column < d.size.width →
+    is_covered d (row * d.size.width + column) ≡ is_in_span d.a d.b d.c (centre column) (centre row)
+is_covered-span d row column h = is_covered-at d row column h ∙ winding-span d.a d.b d.c (centre column) (centre row)
 
--- the words of a row are those of its columns before the end
-pub words_in-row : (d : ScreenTriangle) (row end : ℕ) → end ≤ d.size.width →
-    ((k : ℕ) → end ≤ k → k < d.size.width → After (centre k) d.a.x d.b.x d.c.x) →
-    words_in d (row * d.size.width) d.size.width ≡ words_in d (row * d.size.width) end
-words_in-row d row end fits after =
-    words_in-longer d (row * d.size.width) end d.size.width fits (λ k h i.
-    let a = after k h i in
-    missed d row k i (winding-right d.a d.b d.c (centre k) (centre row) a.0 a.1 a.2))
+-- the words of a stretch where the covered pixels are in a range
+pub words_in-range : (d : ScreenTriangle) (a first end count : ℕ) → AreInRange (λ k. is_covered d (a + k)) first end count →
+    words_in d a count ≡ words_in d a end
+words_in-range d a first end count r = words_in-longer d a end count r.limit (λ k h i. r.after k h i)
+
+pub words_in-before : (d : ScreenTriangle) (a first end count : ℕ) → AreInRange (λ k. is_covered d (a + k)) first end count →
+    words_in d a first ≡ []
+words_in-before d a first end count r = words_in-none d a first (λ k h. r.before k h)
+
+pub words_in-empty : (d : ScreenTriangle) (a first end count : ℕ) → AreInRange (λ k. is_covered d (a + k)) first end count →
+    end ≤ first → words_in d a count ≡ []
+words_in-empty d a first end count r h =
+    let order = r.order in
+    let same : end ≡ first = omega arith in
+    words_in-range d a first end count r ∙ ap (words_in d a) same ∙ words_in-before d a first end count r
 
 -- a pixel by its number
 pixel_missed : (d : ScreenTriangle) (k : ℕ) → 0 < d.size.width →
@@ -127,3 +135,28 @@ words_in-picture d end wide fits after =
     let a = after (k / d.size.width) ((le-div_iff_mul-le wide).1 h) ((div-lt_iff_lt-mul wide).1 below) in
     ap (is_covered d) (zero-add k) ∙
     pixel_missed d k wide (winding-below d.a d.b d.c (centre (k % d.size.width)) (centre (k / d.size.width)) a.0 a.1 a.2))
+
+-- no pixel is covered where all columns lie before the triangle or after it
+pub words_in-beside : (d : ScreenTriangle) (end n : ℕ) → 0 < d.size.width →
+    ((k : ℕ) → k < end → Before (centre k) d.a.x d.b.x d.c.x) →
+    ((k : ℕ) → end ≤ k → k < d.size.width → After (centre k) d.a.x d.b.x d.c.x) → words_in d 0 n ≡ []
+words_in-beside d end n wide before after =
+    words_in-none d 0 n (λ k h.
+    ap (is_covered d) (zero-add k) ∙ pixel_missed d k wide (round (k % d.size.width) (centre (k / d.size.width)) (omega arith)))
+  where
+    round : (column : ℕ) (y : ℤ) → column < d.size.width → winding d.a d.b d.c (centre column) y ≡ pos 0
+    round column y h =
+        by_lt column end
+        (λ below. let b = before column below in winding-left d.a d.b d.c (centre column) y b.0 b.1 b.2)
+        (λ above. let a = after column above h in winding-right d.a d.b d.c (centre column) y a.0 a.1 a.2)
+      where
+        by_lt : {P : Type 0} (a b : ℕ) → (a < b → P) → (b ≤ a → P) → P
+        by_lt a b p q = ⊎_elim p q (cases_lt a b)
+
+-- no pixel is covered by a triangle without an area
+pub words_in-flat : (d : ScreenTriangle) (n : ℕ) → 0 < d.size.width → edge_function d.a d.b d.c.x d.c.y ≡ pos 0 → words_in d 0 n ≡ []
+words_in-flat d n wide flat =
+    words_in-none d 0 n (λ k h.
+    let x = centre (k % d.size.width) in
+    let y = centre (k / d.size.width) in
+    ap (is_covered d) (zero-add k) ∙ pixel_missed d k wide (winding-flat d.a d.b d.c x y (divisor-is d.a d.b d.c x y ∙ flat)))

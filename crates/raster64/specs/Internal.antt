@@ -1,2 +1,3 @@
 pub mod Centres
+pub mod Numerators
 pub mod Raster

@@ -25,8 +25,8 @@ pub fn pack(depth: u32, cluster: u32, tri: u32) -> u64
 
 /// Draws a triangle: puts its word at each pixel whose centre it covers, ascending, each pixel once.
 ///
-/// `cluster` is the number of the triangle's cluster, and `tri` its place there. Rows and columns whose
-/// centres lie outside the triangle's box are left out.
+/// `cluster` is the number of the triangle's cluster, and `tri` its number there. A row costs two divisions for its
+/// span and one for its first depth; a pixel costs none.
 pub fn for_each_word<T: PixelSink>(
     a: Spot,
     b: Spot,

@@ -1,52 +1,49 @@
-use Rattle.std.proofs.Common.{◌≡◌, ◌≤◌, ◌^◌, ◌-ℤ◌, ℤ, unsigned_abs, to_z, of_z, w64, ◌∙◌, lit<, arith}
-use Rattle.std.proofs.lemmas.Int.{ints}
-use mir.Syntax.{w128}
-use Rattle.geom_core.specs.Limits.{IsScreenCoordinate}
+use Rattle.std.proofs.Common.{◌≡◌, ◌-ℤ◌, ◌∙◌}
 use Rattle.geom_core.specs.Winding.{edge_function}
-use Rattle.raster64.proofs.Bounds.{computed_sub, within_sub, screen_size}
+use Rattle.raster64.proofs.Products.{difference, product_size, edge_size}
 use Rattle.raster64.proofs.edges.edge_function.Goals as goal
 
-near : (a b : ℤ) → IsScreenCoordinate a → IsScreenCoordinate b →
-    to_z w64 (of_z w64 (to_z w64 (of_z w64 a) -ℤ to_z w64 (of_z w64 b))) ≡ a -ℤ b
-near a b p q = computed_sub w64 a b (2 ^ 42) (screen_size a p) (screen_size b q) (lit< tt)
-
-pub overflow_sub-t-2 : goal.overflow_sub-t-2
-overflow_sub-t-2 c =
-    let s = screen_size c.args.s.y c.requires.from.1 in
-    let t = screen_size c.args.t.y c.requires.to.1 in
-    omega (arith, ints)
-
-pub overflow_sub-x : goal.overflow_sub-x
-overflow_sub-x c =
-    let s = screen_size c.args.s.x c.requires.from.0 in
-    let x = screen_size c.args.x c.requires.point_x in
-    omega (arith, ints)
-
-pub overflow_sub-result : goal.overflow_sub-result
-overflow_sub-result c = omega (arith, ints)
-
-pub returns-clause-edge : goal.returns-clause-edge
-unfolding edge_function
-returns-clause-edge c =
+pub times-along-requires : goal.times-along-requires
+times-along-requires g c =
+    let law = g.met.W.Wide in
     let s = c.requires.from in
     let t = c.requires.to in
-    let tx = near c.args.t.x c.args.s.x t.0 s.0 in
-    let ty = near c.args.t.y c.args.s.y t.1 s.1 in
-    let x = near c.args.x c.args.s.x c.requires.point_x s.0 in
-    let y = near c.args.y c.args.s.y c.requires.point_y s.1 in
-    computed_sub w128 c.times.result c.times-2.result (2 ^ 86) c.times.ensures.bound c.times-2.ensures.bound (lit< tt) ∙ cc
+    let width = c.difference.ensures ∙ difference g.W.Wide.reach c.args.t.x c.args.s.x law.coordinates t.x s.x in
+    let height = c.difference-2.ensures ∙ difference g.W.Wide.reach c.args.y c.args.s.y law.coordinates c.requires.point_y s.y in
+    rw (width, height)
+    (product_size g.W.Wide.reach g.W.Wide.most c.args.t.x c.args.s.x c.args.y c.args.s.y law.products t.x s.x c.requires.point_y s.y)
 
-pub returns-clause-bound : goal.returns-clause-bound
-returns-clause-bound c =
-    let e = computed_sub w128 c.times.result c.times-2.result (2 ^ 86) c.times.ensures.bound c.times-2.ensures.bound (lit< tt) in
-    rw e (within_sub c.times.result c.times-2.result (2 ^ 86) (2 ^ 86) (2 ^ 87) c.times.ensures.bound c.times-2.ensures.bound (omega arith))
+pub times-across-requires : goal.times-across-requires
+times-across-requires g c =
+    let law = g.met.W.Wide in
+    let s = c.requires.from in
+    let t = c.requires.to in
+    let height = c.difference-3.ensures ∙ difference g.W.Wide.reach c.args.t.y c.args.s.y law.coordinates t.y s.y in
+    let width = c.difference-4.ensures ∙ difference g.W.Wide.reach c.args.x c.args.s.x law.coordinates c.requires.point_x s.x in
+    rw (height, width)
+    (product_size g.W.Wide.reach g.W.Wide.most c.args.t.y c.args.s.y c.args.x c.args.s.x law.products t.y s.y c.requires.point_x s.x)
 
-difference : (a b : ℤ) → IsScreenCoordinate a → IsScreenCoordinate b →
-    unsigned_abs (to_z w64 (of_z w64 (to_z w64 (of_z w64 a) -ℤ to_z w64 (of_z w64 b)))) ≤ 2 ^ 43
-difference a b p q = rw (near a b p q) (within_sub a b (2 ^ 42) (2 ^ 42) (2 ^ 43) (screen_size a p) (screen_size b q) (omega arith))
+pub minus-requires : goal.minus-requires
+unfolding edge_function
+minus-requires g c =
+    let law = g.met.W.Wide in
+    let s = c.requires.from in
+    let t = c.requires.to in
+    let x = difference g.W.Wide.reach c.args.t.x c.args.s.x law.coordinates t.x s.x in
+    let by_y = difference g.W.Wide.reach c.args.y c.args.s.y law.coordinates c.requires.point_y s.y in
+    let y = difference g.W.Wide.reach c.args.t.y c.args.s.y law.coordinates t.y s.y in
+    let by_x = difference g.W.Wide.reach c.args.x c.args.s.x law.coordinates c.requires.point_x s.x in
+    let e : g.W.Wide.int c.times-along.result -ℤ g.W.Wide.int c.times-across.result ≡ edge_function c.args.s c.args.t c.args.x c.args.y = cc in
+    rw e (edge_size g.W.Wide.reach g.W.Wide.most c.args.s c.args.t c.args.x c.args.y law.products s t c.requires.point_x c.requires.point_y)
 
-pub times-requires-2-clause-near_a : goal.times-requires-2-clause-near_a
-times-requires-2-clause-near_a c = difference c.args.t.y c.args.s.y c.requires.to.1 c.requires.from.1
-
-pub times-requires-2-clause-near_b : goal.times-requires-2-clause-near_b
-times-requires-2-clause-near_b c = difference c.args.x c.args.s.x c.requires.point_x c.requires.from.0
+pub returns : goal.returns
+unfolding edge_function
+returns g c =
+    let law = g.met.W.Wide in
+    let s = c.requires.from in
+    let t = c.requires.to in
+    let x = difference g.W.Wide.reach c.args.t.x c.args.s.x law.coordinates t.x s.x in
+    let by_y = difference g.W.Wide.reach c.args.y c.args.s.y law.coordinates c.requires.point_y s.y in
+    let y = difference g.W.Wide.reach c.args.t.y c.args.s.y law.coordinates t.y s.y in
+    let by_x = difference g.W.Wide.reach c.args.x c.args.s.x law.coordinates c.requires.point_x s.x in
+    cc

@@ -1,31 +1,29 @@
-use Rattle.std.proofs.Common.{◌≤◌, ◌<◌, ℕ, ℤ, ◌<ℤ◌, ◌≤ℤ◌, arith}
-use Rattle.std.proofs.lemmas.Int.{ints}
-use Rattle.raster64.specs.Internal.Centres.{centre}
+use Rattle.std.proofs.Common.{◌≡◌, w64, arith}
+use Rattle.std.proofs.lemmas.Int.{ints, to_z-of_z}
+use mir.Val.{SFits}
+use Rattle.raster64.proofs.CentreRanges.{ordered}
 use Rattle.raster64.proofs.ranges.centre_range.Goals as goal
-
--- a centre that isn't before the greatest corner isn't before the least one
-ordered : (first end count : ℕ) (least greatest a : ℤ) → first ≤ count → least ≤ℤ a → a ≤ℤ greatest →
-    (end < first → centre end <ℤ least) → (end < count → greatest ≤ℤ centre end) → first ≤ end
-ordered first end count least greatest a h i j before after = grind (arith, ints)
 
 pub returns-clause-order : goal.returns-clause-order
 returns-clause-order c =
-    let low = c.least.ensures.bound in
-    let high = c.greatest.ensures.bound in
+    let low : SFits w64 c.min-2.result = record { sfits = c.min-2.type_inv } in
+    let high : SFits w64 c.max-2.result = record { sfits = c.max-2.type_inv } in
     let end = c.centres_before-2.result in
-    ordered c.centres_before.result end c.args.count c.least.result c.greatest.result c.args.a
-    c.centres_before.ensures.most (omega (arith, ints)) (omega (arith, ints))
-    (λ h. let b = c.centres_before.ensures.before end h in omega (arith, ints))
-    (λ h. let b = c.centres_before-2.ensures.after end (omega arith) h in omega (arith, ints))
+    ordered c.centres_before.result end c.args.count c.min-2.result c.max-2.result c.centres_before.ensures.limit
+    (omega (arith, ints, c.min.ensures.self_bound, c.min-2.ensures.self_bound, c.max.ensures.self_bound, c.max-2.ensures.self_bound))
+    (λ h. rw to_z-of_z at (c.centres_before.ensures.before end h))
+    (λ h. rw to_z-of_z at (c.centres_before-2.ensures.after end (omega arith) h))
 
 pub returns-clause-before : goal.returns-clause-before
 returns-clause-before c k h =
+    let low : SFits w64 c.min-2.result = record { sfits = c.min-2.type_inv } in
+    let one : SFits w64 c.min.result = record { sfits = c.min.type_inv } in
     let b = c.centres_before.ensures.before k h in
-    let bound = c.least.ensures.bound in
     (omega (arith, ints), omega (arith, ints), omega (arith, ints))
 
 pub returns-clause-after : goal.returns-clause-after
 returns-clause-after c k h i =
+    let high : SFits w64 c.max-2.result = record { sfits = c.max-2.type_inv } in
+    let one : SFits w64 c.max.result = record { sfits = c.max.type_inv } in
     let b = c.centres_before-2.ensures.after k h i in
-    let bound = c.greatest.ensures.bound in
     (omega (arith, ints), omega (arith, ints), omega (arith, ints))

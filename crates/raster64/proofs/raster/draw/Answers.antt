@@ -1,55 +1,48 @@
-use Rattle.std.proofs.Common.{◌≡◌, ◌+◌, ◌*◌, ◌++◌, refl, ap, ◌∙◌, zero-add, append_assoc, arith}
+use Rattle.std.proofs.Common.{◌≡◌, ◌≤◌, ◌*◌, [], ap, ◌∙◌, arith}
 use Rattle.std.proofs.lemmas.List.{append-nil}
 use Rattle.raster64.specs.Internal.Raster.{words_in}
-use Rattle.raster64.proofs.Bounds.{screen_word, spot_y, picture_sides}
-use Rattle.raster64.proofs.Stretches.{words_in-append, words_in-above, words_in-picture}
+use Rattle.raster64.proofs.Bounds.{screen_word, spot_x, spot_y, picture_sides}
+use Rattle.raster64.proofs.Stretches.{words_in-above, words_in-picture, words_in-beside}
 use Rattle.raster64.proofs.raster.draw.Goals as goal
+use Rattle.raster64.proofs.raster.draw.Goals.{else-rows-via-then-rows+else-columns, else-rows-via-else-rows}
 
-pub rows-init : goal.rows-init
-rows-init g c =
+pub draw_boxed-requires-clause-rows : goal.draw_boxed-requires-clause-rows
+draw_boxed-requires-clause-rows g c =
+    let d = c.args.triangle in
     let spots = c.requires.drawable.spots in
-    let a = screen_word c.args.triangle.a.y (spot_y c.args.triangle.a spots.0) in
-    let b = screen_word c.args.triangle.b.y (spot_y c.args.triangle.b spots.1) in
-    let third = screen_word c.args.triangle.c.y (spot_y c.args.triangle.c spots.2) in
-    let before = rw (a, b, third) at c.centre_range-first.ensures.before in
-    let none = words_in-above c.args.triangle c.centre_range-first.result.first (picture_sides c.args.triangle.size c.requires.drawable.picture).0 before in
-    (refl, λ rest before h. rw (none, append-nil before) h)
+    let a = screen_word d.a.y (spot_y d.a spots.0) in
+    let b = screen_word d.b.y (spot_y d.b spots.1) in
+    let third = screen_word d.c.y (spot_y d.c spots.2) in
+    record {
+      order = c.centre_range-rows.ensures.order;
+      limit = c.centre_range-rows.ensures.limit;
+      above = rw (a, b, third) at c.centre_range-rows.ensures.before;
+      below = rw (a, b, third) at c.centre_range-rows.ensures.after;
+    }
 
-pub draw_row-requires-clause-sink_size : goal.draw_row-requires-clause-sink_size
-draw_row-requires-clause-sink_size g c = rw c.rows.invariant.0 c.requires.sink_size
-
-pub rows-preserved : goal.rows-preserved
-rows-preserved g c =
-    let width = c.args.triangle.size.width in
-    let row = c.rows.row in
-    let next : (row + 1) * width ≡ row * width + width = omega arith in
-    let more : words_in c.args.triangle 0 ((row + 1) * width) ≡ words_in c.args.triangle 0 (row * width) ++ words_in c.args.triangle (row * width) width =
-    ap (words_in c.args.triangle 0) next ∙ words_in-append c.args.triangle 0 (row * width) width ∙
-    ap (λ first. words_in c.args.triangle 0 (row * width) ++ words_in c.args.triangle first width) (zero-add (row * width)) in (
-      c.draw_row.ensures.same_size ∙ c.rows.invariant.0,
-      λ rest before h.
-          rw (more, ← append_assoc)
-          (c.draw_row.ensures.shown rest (before ++ words_in c.args.triangle 0 (row * width)) (c.rows.invariant.1 rest before h)),
-    )
-
-pub returns-clause-same_size : goal.returns-clause-same_size
-returns-clause-same_size g c = c.rows.invariant.0
-
-pub returns-clause-shown : goal.returns-clause-shown
-returns-clause-shown g c rest before h =
+pub returns-else-rows-clause-shown : goal.returns-else-rows-clause-shown
+returns-else-rows-clause-shown g c rest before h =
+    let d = c.args.triangle in
     let spots = c.requires.drawable.spots in
-    let a = screen_word c.args.triangle.a.y (spot_y c.args.triangle.a spots.0) in
-    let b = screen_word c.args.triangle.b.y (spot_y c.args.triangle.b spots.1) in
-    let third = screen_word c.args.triangle.c.y (spot_y c.args.triangle.c spots.2) in
-    let after = rw (a, b, third) at c.centre_range-first.ensures.after in
-    let end : c.rows.row ≡ c.centre_range-first.result.end = omega arith in
-    let all = words_in-picture c.args.triangle c.centre_range-first.result.end (picture_sides c.args.triangle.size c.requires.drawable.picture).0 c.centre_range-first.ensures.most after in
-    rw (all, ← end) (c.rows.invariant.1 rest before h)
-
-pub centre_range-first-requires-clause-coordinates : goal.centre_range-first-requires-clause-coordinates
-centre_range-first-requires-clause-coordinates g c =
-    let spots = c.requires.drawable.spots in
-    let a = screen_word c.args.triangle.a.y (spot_y c.args.triangle.a spots.0) in
-    let b = screen_word c.args.triangle.b.y (spot_y c.args.triangle.b spots.1) in
-    let third = screen_word c.args.triangle.c.y (spot_y c.args.triangle.c spots.2) in
-    rw (a, b, third) (spot_y c.args.triangle.a spots.0, spot_y c.args.triangle.b spots.1, spot_y c.args.triangle.c spots.2)
+    let wide = (picture_sides d.size c.requires.drawable.picture).0 in
+    let rows = c.centre_range-rows.result in
+    let columns = c.centre_range-columns.result in
+    let a_y = screen_word d.a.y (spot_y d.a spots.0) in
+    let b_y = screen_word d.b.y (spot_y d.b spots.1) in
+    let c_y = screen_word d.c.y (spot_y d.c spots.2) in
+    let a_x = screen_word d.a.x (spot_x d.a spots.0) in
+    let b_x = screen_word d.b.x (spot_x d.b spots.1) in
+    let c_x = screen_word d.c.x (spot_x d.c spots.2) in
+    let above = rw (a_y, b_y, c_y) at c.centre_range-rows.ensures.before in
+    let below = rw (a_y, b_y, c_y) at c.centre_range-rows.ensures.after in
+    let left = rw (a_x, b_x, c_x) at c.centre_range-columns.ensures.before in
+    let right = rw (a_x, b_x, c_x) at c.centre_range-columns.ensures.after in
+    let no_columns : columns.end ≤ columns.first → words_in d 0 (d.size.width * d.size.height) ≡ [] =
+    λ empty. words_in-beside d columns.end (d.size.width * d.size.height) wide (λ k i. left k (omega arith)) right in
+    let no_rows : rows.end ≤ rows.first → words_in d 0 (d.size.width * d.size.height) ≡ [] =
+    λ empty. let same : rows.end ≡ rows.first = omega (arith, c.centre_range-rows.ensures.order) in
+    words_in-picture d rows.end wide c.centre_range-rows.ensures.limit below ∙ ap (λ end. words_in d 0 (end * d.size.width)) same ∙
+    words_in-above d rows.first wide above in
+    let none : words_in d 0 (d.size.width * d.size.height) ≡ [] =
+    elim c.else-rows.branch [ else-rows-via-then-rows+else-columns w ↦ no_columns (omega arith) | else-rows-via-else-rows w ↦ no_rows (omega arith) ] in
+    rw (none, append-nil before) h

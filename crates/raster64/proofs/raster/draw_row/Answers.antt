@@ -1,51 +1,63 @@
-use Rattle.std.proofs.Common.{◌≡◌, ◌*◌, ◌++◌, refl, ◌∙◌, append_assoc, arith}
+use Rattle.std.proofs.Common.{◌≡◌, ◌≤◌, ◌+◌, ◌*◌, [], unsigned_abs, to_z, of_z, w64, ◌∙◌, arith}
+use Rattle.std.proofs.lemmas.Int.{ints, to_z-of_z}
 use Rattle.std.proofs.lemmas.List.{append-nil}
-use Rattle.raster64.specs.Internal.Raster.{words_in}
-use Rattle.raster64.proofs.Bounds.{screen_word, spot_x}
-use Rattle.raster64.proofs.Stretches.{words_in-append, words_in-left, words_in-row}
+use mir.Val.{SFits}
+use Rattle.raster64.specs.Internal.Centres.{centre, AreInRange}
+use Rattle.raster64.specs.Internal.Raster.{is_covered, words_in}
+use Rattle.raster64.specs.Span.{is_in_span}
+use Rattle.raster64.proofs.Bounds.{spot_z, picture_sides}
+use Rattle.raster64.proofs.CentreRanges.{range_same}
+use Rattle.raster64.proofs.Products.{centre_size}
+use Rattle.raster64.proofs.Stretches.{is_covered-span, words_in-empty}
 use Rattle.raster64.proofs.raster.draw_row.Goals as goal
 
-pub columns-init : goal.columns-init
-columns-init g c =
+pub depth_at-start-requires-clause-point_x : goal.depth_at-start-requires-clause-point_x
+depth_at-start-requires-clause-point_x g c =
+    let sides = picture_sides c.args.triangle.size c.requires.drawable.picture in
+    let end = c.covered_columns-columns.ensures.limit in
+    let fits : SFits w64 c.centre_of.result = record { sfits = c.centre_of.type_inv } in
+    let x : to_z w64 (of_z w64 c.centre_of.result) ≡ centre c.covered_columns-columns.result.first = to_z-of_z w64 c.centre_of.result fits ∙ c.centre_of.ensures in
+    rw x (centre_size g.W.Wide.reach c.covered_columns-columns.result.first g.met.W.Wide.centres (omega arith))
+
+pub depth_at-start-requires-clause-point_y : goal.depth_at-start-requires-clause-point_y
+depth_at-start-requires-clause-point_y g c =
+    let sides = picture_sides c.args.triangle.size c.requires.drawable.picture in
+    let row = c.requires.row in
+    let fits : SFits w64 c.centre_of-y.result = record { sfits = c.centre_of-y.type_inv } in
+    let y : to_z w64 (of_z w64 c.centre_of-y.result) ≡ centre c.args.row = to_z-of_z w64 c.centre_of-y.result fits ∙ c.centre_of-y.ensures in
+    rw y (centre_size g.W.Wide.reach c.args.row g.met.W.Wide.centres (omega arith))
+
+pub draw_columns-requires-clause-columns : goal.draw_columns-requires-clause-columns
+draw_columns-requires-clause-columns g c =
+    let d = c.args.triangle in
+    let fits : SFits w64 c.centre_of-y.result = record { sfits = c.centre_of-y.type_inv } in
+    let y : to_z w64 (of_z w64 c.centre_of-y.result) ≡ centre c.args.row = to_z-of_z w64 c.centre_of-y.result fits ∙ c.centre_of-y.ensures in
+    range_same (λ k. is_in_span d.a d.b d.c (centre k) (centre c.args.row)) (λ k. is_covered d (c.args.row * d.size.width + k))
+    c.covered_columns-columns.result.first c.covered_columns-columns.result.end d.size.width
+    (λ k h. is_covered-span d c.args.row k h) (rw y at c.covered_columns-columns.ensures)
+
+pub draw_columns-requires-clause-start : goal.draw_columns-requires-clause-start
+draw_columns-requires-clause-start g c =
+    let fits_x : SFits w64 c.centre_of.result = record { sfits = c.centre_of.type_inv } in
+    let fits_y : SFits w64 c.centre_of-y.result = record { sfits = c.centre_of-y.type_inv } in
+    let x : to_z w64 (of_z w64 c.centre_of.result) ≡ centre c.covered_columns-columns.result.first = to_z-of_z w64 c.centre_of.result fits_x ∙ c.centre_of.ensures in
+    let y : to_z w64 (of_z w64 c.centre_of-y.result) ≡ centre c.args.row = to_z-of_z w64 c.centre_of-y.result fits_y ∙ c.centre_of-y.ensures in
+    rw (x, y) at c.depth_at-start.ensures
+
+pub depth_at-start-requires-clause-depths : goal.depth_at-start-requires-clause-depths
+depth_at-start-requires-clause-depths g c =
+    let d = c.args.triangle in
     let spots = c.requires.drawable.spots in
-    let a = screen_word c.args.triangle.a.x (spot_x c.args.triangle.a spots.0) in
-    let b = screen_word c.args.triangle.b.x (spot_x c.args.triangle.b spots.1) in
-    let third = screen_word c.args.triangle.c.x (spot_x c.args.triangle.c spots.2) in
-    let before = rw (a, b, third) at c.centre_range-first.ensures.before in
-    let none = words_in-left c.args.triangle c.args.row c.centre_range-first.result.first (omega arith) before in
-    (refl, λ rest before h. rw (none, append-nil before) h)
+    (spot_z d.a spots.0, spot_z d.b spots.1, spot_z d.c spots.2)
 
-pub centre_range-first-requires-clause-coordinates : goal.centre_range-first-requires-clause-coordinates
-centre_range-first-requires-clause-coordinates g c =
-    let spots = c.requires.drawable.spots in
-    let a = screen_word c.args.triangle.a.x (spot_x c.args.triangle.a spots.0) in
-    let b = screen_word c.args.triangle.b.x (spot_x c.args.triangle.b spots.1) in
-    let third = screen_word c.args.triangle.c.x (spot_x c.args.triangle.c spots.2) in
-    rw (a, b, third) (spot_x c.args.triangle.a spots.0, spot_x c.args.triangle.b spots.1, spot_x c.args.triangle.c spots.2)
-
-pub draw_pixel-requires-clause-sink_size : goal.draw_pixel-requires-clause-sink_size
-draw_pixel-requires-clause-sink_size g c = rw c.columns.invariant.0 c.requires.sink_size
-
-pub columns-preserved : goal.columns-preserved
-columns-preserved g c =
-    let first = c.args.row * c.args.triangle.size.width in
-    let column = c.columns.column in (
-      c.draw_pixel.ensures.same_size ∙ c.columns.invariant.0,
-      λ rest before h.
-          rw (words_in-append c.args.triangle first column 1, ← append_assoc)
-          (c.draw_pixel.ensures.shown rest (before ++ words_in c.args.triangle first column) (c.columns.invariant.1 rest before h)),
-    )
-
-pub returns-clause-same_size : goal.returns-clause-same_size
-returns-clause-same_size g c = c.columns.invariant.0
-
-pub returns-clause-shown : goal.returns-clause-shown
-returns-clause-shown g c rest before h =
-    let spots = c.requires.drawable.spots in
-    let a = screen_word c.args.triangle.a.x (spot_x c.args.triangle.a spots.0) in
-    let b = screen_word c.args.triangle.b.x (spot_x c.args.triangle.b spots.1) in
-    let third = screen_word c.args.triangle.c.x (spot_x c.args.triangle.c spots.2) in
-    let after = rw (a, b, third) at c.centre_range-first.ensures.after in
-    let end : c.columns.column ≡ c.centre_range-first.result.end = omega arith in
-    let all = words_in-row c.args.triangle c.args.row c.centre_range-first.result.end c.centre_range-first.ensures.most after in
-    rw (all, ← end) (c.columns.invariant.1 rest before h)
+pub returns-else-columns-clause-shown : goal.returns-else-columns-clause-shown
+returns-else-columns-clause-shown g c rest before h =
+    let d = c.args.triangle in
+    let fits : SFits w64 c.centre_of-y.result = record { sfits = c.centre_of-y.type_inv } in
+    let y : to_z w64 (of_z w64 c.centre_of-y.result) ≡ centre c.args.row = to_z-of_z w64 c.centre_of-y.result fits ∙ c.centre_of-y.ensures in
+    let range = range_same (λ k. is_in_span d.a d.b d.c (centre k) (centre c.args.row)) (λ k. is_covered d (c.args.row * d.size.width + k))
+    c.covered_columns-columns.result.first c.covered_columns-columns.result.end d.size.width
+    (λ k h. is_covered-span d c.args.row k h) (rw y at c.covered_columns-columns.ensures) in
+    let none = words_in-empty d (c.args.row * d.size.width) c.covered_columns-columns.result.first c.covered_columns-columns.result.end
+    d.size.width range (omega arith) in
+    rw (none, append-nil before) h

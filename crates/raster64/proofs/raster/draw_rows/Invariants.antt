@@ -1,6 +1,6 @@
 use Rattle.std.proofs.Common.{◌≡◌, ◌*◌, ℕ, List, ◌++◌}
 use Rattle.raster64.specs.Internal.Raster.{words_in}
-use Rattle.raster64.proofs.raster.draw.Given as goal
+use Rattle.raster64.proofs.raster.draw_rows.Given as goal
 
 -- the sink shows the words of the rows so far
 abbrev pub invariant-rows : goal.invariant-rows
