@@ -122,3 +122,8 @@ not_beyond = refl
 pub not_longer : is_grown 1 (λ _. 0) (are_adjacent []) 8 (0 ∷ 0 ∷ []) ≡ false
 unfolding is_next is_grown
 not_longer = refl
+
+-- the least item, placed a second time
+pub not_again : is_grown 2 (slice_index (3 ∷ 5 ∷ [])) (are_adjacent []) 8 (0 ∷ 0 ∷ []) ≡ false
+unfolding is_next is_grown
+not_again = refl

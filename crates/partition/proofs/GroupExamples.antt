@@ -19,6 +19,9 @@ use Rattle.partition.specs.OneBatch.{IsInOneBatch}
 abbrev point : ℕ → Pt
 point x = record { x = pos x; y = pos 0; z = pos 0 }
 
+abbrev at : ℕ → ℕ → Pt
+at x y = record { x = pos x; y = pos y; z = pos 0 }
+
 abbrev edge : ℕ → ℕ → Edge
 edge u v = record { u = point u; v = point v }
 
@@ -51,6 +54,11 @@ batches_not_short b =
 pub batches_by_edge : AreBatches (1 ∷ 2 ∷ 3 ∷ []) (((point 0, point 8) ∷ []) ∷ [] ∷ ((point 8, point 0) ∷ []) ∷ []) 8 ((0 ∷ 2 ∷ 1 ∷ []) ∷ [])
 unfolding is_grown is_next share_edge same_edge same_point batches_of
 batches_by_edge = record { grown = refl; split = refl }
+
+-- With one item a batch the second batch begins empty, so 1 comes before 2.
+pub batches_end : AreBatches (1 ∷ 2 ∷ 3 ∷ []) (((point 0, point 8) ∷ []) ∷ [] ∷ ((point 8, point 0) ∷ []) ∷ []) 1 ((0 ∷ []) ∷ (1 ∷ []) ∷ (2 ∷ []) ∷ [])
+unfolding is_grown is_next share_edge same_edge same_point batches_of
+batches_end = record { grown = refl; split = refl }
 
 pub pick_in_order : pick {X = ℕ} (7 ∷ 8 ∷ 9 ∷ []) 1 (2 ∷ 0 ∷ 5 ∷ 0 ∷ []) ≡ 9 ∷ 7 ∷ 1 ∷ 7 ∷ []
 pick_in_order = refl
@@ -115,6 +123,15 @@ clusters_by_key = record { grown = refl; split = refl }
 pub clusters_not_by_number : AreClusters row ((0 ∷ 1 ∷ 2 ∷ []) ∷ []) → ⊥
 unfolding is_grown is_next share_edge same_edge same_point edges_of low_of morton_of cell_of interleave
 clusters_not_by_number c = absurd (false≢true c.grown)
+
+-- The first and the last share an edge: the last comes before the second, which has a lesser key.
+abbrev sharing : List Tri
+sharing =
+    record { a = at 0 0; b = at 8 0; c = at 8 8 } ∷ record { a = at 0 0; b = at 0 8; c = at 0 4 } ∷ record { a = at 8 0; b = at 16 0; c = at 8 8 } ∷ []
+
+pub clusters_by_edge : AreClusters sharing ((0 ∷ 2 ∷ 1 ∷ []) ∷ [])
+unfolding is_grown is_next share_edge same_edge same_point edges_of low_of morton_of cell_of interleave batches_of
+clusters_by_edge = record { grown = refl; split = refl }
 
 -- 128 triangles are one cluster
 pub clusters_of_128 : (tris : List Tri) (clusters : List (List ℕ)) → AreClusters tris clusters → clusters ≡ batches_of 128 (concat clusters)

@@ -1,7 +1,7 @@
 -- Worked examples of the Morton keys, computed by the checker.
 use Rattle.std.specs.Prelude.{◌≡◌, ℤ, pos, negsuc, refl}
 use Rattle.geom_core.specs.declared.points.Pt.{Pt}
-use Rattle.partition.specs.Morton.{interleave, cell_of, morton_of}
+use Rattle.partition.specs.Morton.{interleave, cell_of, morton_of, spread_bits}
 
 abbrev point : ℤ → ℤ → ℤ → Pt
 point x y z = record { x = x; y = y; z = z }
@@ -15,6 +15,15 @@ interleave_1_2_3 = refl
 pub interleave_of_one_bit : interleave 1 2 3 7 ≡ 6
 unfolding interleave
 interleave_of_one_bit = refl
+
+-- 5 has the bits 0 and 2
+pub spread_bits_of_5 : spread_bits 21 5 ≡ 65
+unfolding spread_bits
+spread_bits_of_5 = refl
+
+pub spread_bits_of_two : spread_bits 2 5 ≡ 1
+unfolding spread_bits
+spread_bits_of_two = refl
 
 -- cells are two wide, from the least coordinate on
 pub cell_of_least : cell_of (negsuc 1048575) ≡ 0

@@ -72,6 +72,11 @@ pub low_corner_of_hull : (t : Tri) → option_map (λ (box : Cube). box.lo) (hul
 unfolding join_of
 low_corner_of_hull t = refl
 
+-- the key is that of the low corner
+pub triangle_key_of_low : triangle_key (tri (point 4 0) (point 0 4) (point 4 4)) ≡ triangle_key first
+unfolding low_of
+triangle_key_of_low = refl
+
 -- Three triangles: the one with a shared point ranks before the one with a shared edge, and comes after it.
 abbrev three : List Tri
 three = first ∷ tri origin (point 0 8) (point 0 4) ∷ tri right (point 16 0) upper ∷ []
