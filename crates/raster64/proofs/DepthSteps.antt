@@ -1,6 +1,6 @@
 -- Along a row the weighted sum of depths grows by the same from column to column, and where the triangle covers a
 -- column its quotient is the depth.
-use Rattle.std.proofs.Common.{◌≡◌, ◌≢◌, ℕ, ◌+◌, ◌*◌, ◌≤◌, ◌<◌, ◌^◌, ℤ, pos, ◌+ℤ◌, ◌-ℤ◌, ◌*ℤ◌, ◌<ℤ◌, ◌≤ℤ◌, unsigned_abs, refl, sym, ap, ◌∙◌, arith}
+use Rattle.std.proofs.Common.{◌≡◌, ◌≢◌, ℕ, ◌+◌, ◌≤◌, ◌<◌, ℤ, pos, ◌+ℤ◌, ◌-ℤ◌, ◌*ℤ◌, ◌<ℤ◌, unsigned_abs, sym, ap, ◌∙◌, arith}
 use Rattle.std.proofs.lemmas.Int.{ints, by_lt_z}
 use Rattle.geom_core.specs.declared.limits.TheConstants.{SUBPIXELS, MAX_DEPTH}
 use Rattle.geom_core.specs.declared.screens.Spot.{Spot}
@@ -13,7 +13,7 @@ use Rattle.geom_core.proofs.DepthLaws.{depth-to}
 use Rattle.geom_core.proofs.FloorLaws.{floor_div-size}
 use Rattle.geom_core.proofs.InterpolationLaws.{depth-quotient}
 use Rattle.raster64.specs.Internal.Centres.{centre}
-use Rattle.raster64.specs.Internal.Numerators.{IsWithin, by_depths, growth, IsDivided, IsDepthPlane}
+use Rattle.raster64.specs.Internal.Numerators.{growth, IsDivided}
 use Rattle.raster64.proofs.Division.{quotient-is, sum_divided, sum_carried}
 
 -- ---- from column to column

@@ -1,12 +1,11 @@
 -- Two corners exchanged: the triangle covers the same pixels with the same words, and its divisor changes its sign.
-use Rattle.std.proofs.Common.{◌≡◌, ◌≢◌, ℕ, ◌*◌, Bool, true, false, not, List, [], ◌∷◌, map, filter, min, max, ℤ, pos, ◌+ℤ◌, ◌-ℤ◌, ◌*ℤ◌, neg_ℤ, refl, sym, ap, ◌∙◌, arith}
+use Rattle.std.proofs.Common.{◌≡◌, ◌≢◌, ℕ, Bool, true, false, not, List, [], ◌∷◌, map, filter, min, max, ℤ, pos, ◌+ℤ◌, ◌*ℤ◌, neg_ℤ, refl, sym, ap, ◌∙◌, arith}
 use Rattle.std.proofs.lemmas.Int.{ints}
 use Rattle.std.specs.List.{range_with_len}
 use Rattle.std.specs.Ordering.{int_eq}
 use Rattle.geom_core.specs.declared.screens.Spot.{Spot}
-use Rattle.geom_core.specs.Floor.{floor_div}
 use Rattle.geom_core.specs.Winding.{edge_function, winding}
-use Rattle.geom_core.specs.Depth.{divisor, weighted, held, depth}
+use Rattle.geom_core.specs.Depth.{divisor, weighted, depth}
 use Rattle.geom_core.specs.Coverage.{covers, word_at, word_of}
 use Rattle.geom_core.proofs.Differences.{as_dif, difs, dif-same}
 use Rattle.geom_core.proofs.DivisorLaws.{divisor-is, edge_function-turned}

@@ -1,6 +1,6 @@
 -- That the differences, products and sums of coordinates within a type's reach are numbers that the type holds.
 use Rattle.std.proofs.Common.{◌≡◌, ℕ, ◌+◌, ◌*◌, ◌^◌, ◌<◌, ◌≤◌, ℤ, pos, ◌+ℤ◌, ◌-ℤ◌, ◌*ℤ◌, ◌<ℤ◌, ◌≤ℤ◌, unsigned_abs, to_z, of_z, w64, refl, lit<, arith, mul-le-mul}
-use Rattle.std.proofs.lemmas.Int.{ints, to_z-of_z, fits_signed_from_abs}
+use Rattle.std.proofs.lemmas.Int.{ints}
 use Rattle.geom_core.specs.declared.limits.TheConstants.{SUBPIXELS, MAX_SIDE, MAX_DEPTH, MAX_SCREEN_COORDINATE}
 use Rattle.geom_core.specs.declared.screens.Spot.{Spot}
 use Rattle.geom_core.specs.Floor.{floor_div}

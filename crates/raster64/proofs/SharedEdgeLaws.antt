@@ -1,15 +1,15 @@
 -- Two triangles on the two sides of a shared edge share no point, and a triangle's points lie within its box.
-use Rattle.std.proofs.Common.{◌≡◌, ◌≢◌, ◌⊎◌, ⊎_elim, Bool, true, false, ℤ, pos, ◌+ℤ◌, ◌-ℤ◌, ◌*ℤ◌, neg_ℤ, ◌<ℤ◌, ◌≤ℤ◌, int_le, int_lt, refl, sym, ap, ◌∙◌, arith}
+use Rattle.std.proofs.Common.{◌≡◌, ◌≢◌, ⊎_elim, Bool, true, false, ℤ, pos, ◌+ℤ◌, ◌-ℤ◌, ◌*ℤ◌, neg_ℤ, ◌<ℤ◌, ◌≤ℤ◌, int_le, int_lt, refl, sym, ap, ◌∙◌, arith}
 use Rattle.std.proofs.lemmas.Int.{ints, clamps, by_lt_z}
 use Rattle.std.specs.Int.{int_min, int_max}
 use Rattle.geom_core.specs.declared.screens.Spot.{Spot}
 use Rattle.geom_core.specs.Winding.{edge_function, winding}
 use Rattle.geom_core.specs.Depth.{divisor}
 use Rattle.geom_core.proofs.Differences.{as_dif, difs, dif-same}
-use Rattle.geom_core.proofs.Signs.{product_not_negative, product_not_positive, product_positive}
+use Rattle.geom_core.proofs.Signs.{product_not_positive, product_positive}
 use Rattle.geom_core.proofs.Crossings.{step, reaches, beside, winding-steps}
 use Rattle.geom_core.proofs.DivisorLaws.{divisor-is, edge_function-turned}
-use Rattle.geom_core.proofs.InterpolationLaws.{NoneNegative, TurnsForth, winding-turns, edges_balance}
+use Rattle.geom_core.proofs.InterpolationLaws.{TurnsForth, winding-turns, edges_balance}
 use Rattle.geom_core.proofs.WindingLaws.{winding-rotated, winding-turned, winding-left, winding-right, winding-above, winding-below}
 use Rattle.raster64.specs.Sides.{AreOpposite, IsInBox}
 use Rattle.raster64.proofs.SpanLaws.{less_false}

@@ -3,7 +3,7 @@ ghost use Rattle.geom_core.specs.Coverage.{words_of};
 ghost use Rattle.geom_core.specs.Limits.{IsSpot, IsClusterNumber, IsPicture};
 ghost use Rattle.geom_core.specs.declared.limits.TheConstants.{TRIANGLES_PER_CLUSTER};
 
-use crate::recorder::Recorder;
+use crate::recorder::{ROOM, Recorder};
 use crate::{crossing, for_each_word, pack};
 use geom_core::limits::{MAX_DEPTH, MAX_SCREEN_COORDINATE};
 use geom_core::{Size, Spot};
@@ -43,6 +43,19 @@ fn puts_of(a: Spot, b: Spot, c: Spot, cluster: u32, tri: u32, size: Size) -> Rec
     let mut recorder = Recorder::new();
     for_each_word(a, b, c, cluster, tri, size, &mut recorder);
     recorder
+}
+
+/// Whether the recorder's puts are these.
+fn has_puts(got: &Recorder, want: &[(u32, u64)]) -> bool {
+    if got.count != want.len() {
+        return false;
+    }
+    for (at, put) in want.iter().enumerate() {
+        if at >= ROOM || got.puts[at] != *put {
+            return false;
+        }
+    }
+    true
 }
 
 #[test]
@@ -112,10 +125,92 @@ fn puts_each_covered_pixel_ascending(rt: HostRuntime) {
             tri % 8,
             FOUR_BY_FOUR,
         );
-        assert_eq!(rt; got.count, want.len(), "{name}");
-        for (at, put) in want.iter().enumerate() {
-            assert!(rt; at < 16 && got.puts[at] == *put, "{name}");
-        }
+        assert!(rt; has_puts(&got, want), "{name}");
+    }
+}
+
+#[test]
+fn steps_depths_along_spans(rt: HostRuntime) {
+    let far = 1 << 42;
+    let most = 1_073_741_823;
+    let none: &[(u32, u64)] = &[];
+    let above: &[(u32, u64)] = &[
+        (0, 0x14_0000_0000),
+        (1, 0x14_0000_0000),
+        (2, 0x14_0000_0000),
+        (3, 0x14_0000_0000),
+        (4, 0x14_0000_0000),
+        (5, 0x14_0000_0000),
+    ];
+    let below: &[(u32, u64)] = &[(5, 0x14_0000_0000), (6, 0x14_0000_0000)];
+    let one: &[(u32, u64)] = &[(5, 0x1c_0000_0000)];
+    let near: &[(u32, u64)] = &[
+        (0, 0x1934_62d8_0000_0000),
+        (1, 0x5bda_2860_0000_0000),
+        (2, 0x9e7f_edec_0000_0000),
+        (3, 0xe125_b374_0000_0000),
+        (4, 0x102a_ecf0_0000_0000),
+        (5, 0x52d0_b27c_0000_0000),
+        (6, 0x9576_7804_0000_0000),
+        (8, 0x721_770c_0000_0000),
+        (9, 0x49c7_3c94_0000_0000),
+    ];
+    let wide: &[(u32, u64)] = &[
+        (8, 0x7fff_fffc_0000_0000),
+        (9, 0x8000_0000_0000_0000),
+        (10, 0x8000_0000_0000_0000),
+        (11, 0x8000_0000_0000_0000),
+        (12, 0x7fff_fffc_0000_0000),
+        (13, 0x7fff_fffc_0000_0000),
+        (14, 0x8000_0000_0000_0000),
+        (15, 0x8000_0000_0000_0000),
+    ];
+    let left = (1, 1, 1);
+    let right = (63, 5, most);
+    let lower = (9, 60, 1);
+    let cases = [
+        (
+            "a sliver between centres",
+            [(9, 0, 5), (15, 64, 5), (10, 64, 5)],
+            none,
+        ),
+        (
+            "level on a centre, above",
+            [(0, 8, 5), (64, 8, 5), (0, 40, 5)],
+            above,
+        ),
+        (
+            "level on a centre, below",
+            [(0, 40, 5), (64, 40, 5), (32, 8, 5)],
+            below,
+        ),
+        (
+            "a corner on a centre",
+            [(24, 24, 7), (25, 24, 7), (24, 25, 7)],
+            one,
+        ),
+        (
+            "one step to the right",
+            [(25, 24, 7), (26, 24, 7), (25, 25, 7)],
+            none,
+        ),
+        (
+            "one step to the left",
+            [(23, 24, 7), (24, 24, 7), (23, 25, 7)],
+            none,
+        ),
+        ("one step up", [(24, 23, 7), (25, 23, 7), (24, 24, 7)], none),
+        ("least and greatest depth", [left, right, lower], near),
+        ("the other winding", [left, lower, right], near),
+        (
+            "the furthest spots",
+            [(-far, 20, 1), (far, 28, most), (30, far, 1)],
+            wide,
+        ),
+    ];
+    for (name, [a, b, c], want) in cases {
+        let got = puts_of(spot(a), spot(b), spot(c), 0, 0, FOUR_BY_FOUR);
+        assert!(rt; has_puts(&got, want), "{name}");
     }
 }
 
@@ -144,10 +239,7 @@ fn numbers_pixels_by_the_width(rt: HostRuntime) {
         ),
     ];
     for (name, got) in windings {
-        assert_eq!(rt; got.count, want.len(), "{name}");
-        for (at, put) in want.iter().enumerate() {
-            assert!(rt; at < 16 && got.puts[at] == *put, "{name}");
-        }
+        assert!(rt; has_puts(&got, want), "{name}");
     }
 }
 

@@ -1,4 +1,4 @@
-use Rattle.std.proofs.Common.{◌≡◌, ◌+ℤ◌, ◌*ℤ◌, pos, ◌∙◌}
+use Rattle.std.proofs.Common.{◌≡◌, ◌+ℤ◌, ◌*ℤ◌, pos}
 use Rattle.raster64.specs.Internal.Numerators.{by_depths}
 use Rattle.raster64.proofs.Bounds.{depth_limit}
 use Rattle.raster64.proofs.Products.{two_shares, three_shares}

@@ -1,4 +1,4 @@
-use Rattle.std.proofs.Common.{◌≡◌, ◌≤◌, ◌+◌, unsigned_abs, w64, ◌∙◌, arith}
+use Rattle.std.proofs.Common.{◌≡◌, w64, arith}
 use Rattle.std.proofs.lemmas.Int.{to_z-of_z}
 use Rattle.geom_core.specs.Depth.{weighted}
 use Rattle.raster64.proofs.Bounds.{depth_limit}

@@ -1,5 +1,4 @@
-use Rattle.std.proofs.Common.{◌≡◌, ◌≤◌, ◌+◌, unsigned_abs, arith}
-use Rattle.geom_core.specs.Winding.{edge_function}
+use Rattle.std.proofs.Common.{arith}
 use Rattle.raster64.proofs.Bounds.{depth_limit}
 use Rattle.raster64.proofs.Products.{growth_size, area_size}
 use Rattle.raster64.proofs.depths.depth_plane.Goals as goal

@@ -1,4 +1,4 @@
-use Rattle.std.proofs.Common.{◌≡◌, ◌-ℤ◌, ◌*ℤ◌, ◌∙◌}
+use Rattle.std.proofs.Common.{◌≡◌, ◌-ℤ◌, ◌*ℤ◌}
 use Rattle.raster64.proofs.Division.{divided}
 use Rattle.raster64.proofs.depths.divide.Goals as goal
 

@@ -1,6 +1,5 @@
-use Rattle.std.proofs.Common.{◌≡◌, ◌≤◌, ◌*◌, ◌-ℤ◌, ◌*ℤ◌, pos, unsigned_abs, ◌∙◌, arith}
-use Rattle.geom_core.specs.declared.limits.TheConstants.{MAX_DEPTH, SUBPIXELS}
-use Rattle.raster64.specs.Internal.Numerators.{by_depths, growth}
+use Rattle.std.proofs.Common.{◌≡◌, ◌*ℤ◌, arith}
+use Rattle.raster64.specs.Internal.Numerators.{growth}
 use Rattle.raster64.proofs.Bounds.{depth_limit}
 use Rattle.raster64.proofs.Products.{difference, growth_size}
 use Rattle.raster64.proofs.depths.growth.Goals as goal

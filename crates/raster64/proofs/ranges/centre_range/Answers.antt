@@ -1,4 +1,4 @@
-use Rattle.std.proofs.Common.{◌≡◌, w64, arith}
+use Rattle.std.proofs.Common.{w64, arith}
 use Rattle.std.proofs.lemmas.Int.{ints, to_z-of_z}
 use mir.Val.{SFits}
 use Rattle.raster64.proofs.CentreRanges.{ordered}

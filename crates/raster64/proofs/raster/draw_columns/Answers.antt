@@ -1,12 +1,12 @@
-use Rattle.std.proofs.Common.{◌≡◌, ◌≤◌, ◌<◌, ◌+◌, ◌*◌, [], ◌∷◌, ◌++◌, true, pos, ◌+ℤ◌, unsigned_abs, to_z, of_z, w64, refl, sym, ap, ◌∙◌, append_assoc, arith}
-use Rattle.std.proofs.lemmas.Int.{ints, to_z-of_z}
+use Rattle.std.proofs.Common.{◌≡◌, ◌+◌, ◌*◌, [], ◌∷◌, ◌++◌, pos, to_z, of_z, w64, refl, sym, ap, ◌∙◌, append_assoc, arith}
+use Rattle.std.proofs.lemmas.Int.{to_z-of_z}
 use Rattle.std.proofs.lemmas.List.{append-nil}
 use mir.Val.{SFits}
 use Rattle.geom_core.specs.Depth.{weighted, depth}
 use Rattle.geom_core.specs.Coverage.{word_of}
 use Rattle.raster64.specs.Internal.Centres.{centre}
 use Rattle.raster64.specs.Internal.Numerators.{growth}
-use Rattle.raster64.specs.Internal.Raster.{is_covered, words_in}
+use Rattle.raster64.specs.Internal.Raster.{words_in}
 use Rattle.raster64.proofs.Bounds.{spot_z, depth_limit, picture_sides, pixel_limit}
 use Rattle.raster64.proofs.DepthSteps.{weighted_next, wholes_size}
 use Rattle.raster64.proofs.DrawnColumns.{column_depth, depth_size}

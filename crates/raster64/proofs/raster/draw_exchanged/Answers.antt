@@ -1,8 +1,7 @@
-use Rattle.std.proofs.Common.{◌≡◌, ◌≢◌, ◌≤◌, ◌*◌, true, false, [], ℤ, pos, ◌-ℤ◌, neg_ℤ, ◌<ℤ◌, ◌≤ℤ◌, int_lt, unsigned_abs, sym, ◌∙◌, arith}
+use Rattle.std.proofs.Common.{◌≡◌, ◌≢◌, ◌≤◌, ◌*◌, true, false, ℤ, pos, ◌-ℤ◌, neg_ℤ, ◌<ℤ◌, ◌≤ℤ◌, int_lt, unsigned_abs, sym, ◌∙◌, arith}
 use Rattle.std.proofs.lemmas.Int.{ints}
 use Rattle.std.proofs.lemmas.List.{append-nil}
 use Rattle.geom_core.specs.Winding.{edge_function}
-use Rattle.raster64.specs.Internal.Raster.{exchanged, words_in}
 use Rattle.raster64.proofs.Bounds.{picture_sides}
 use Rattle.raster64.proofs.Exchanged.{area-exchanged, words_in-exchanged}
 use Rattle.raster64.proofs.Products.{area_size}

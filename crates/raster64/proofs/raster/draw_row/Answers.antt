@@ -1,9 +1,9 @@
-use Rattle.std.proofs.Common.{◌≡◌, ◌≤◌, ◌+◌, ◌*◌, [], unsigned_abs, to_z, of_z, w64, ◌∙◌, arith}
-use Rattle.std.proofs.lemmas.Int.{ints, to_z-of_z}
+use Rattle.std.proofs.Common.{◌≡◌, ◌+◌, ◌*◌, to_z, of_z, w64, ◌∙◌, arith}
+use Rattle.std.proofs.lemmas.Int.{to_z-of_z}
 use Rattle.std.proofs.lemmas.List.{append-nil}
 use mir.Val.{SFits}
-use Rattle.raster64.specs.Internal.Centres.{centre, AreInRange}
-use Rattle.raster64.specs.Internal.Raster.{is_covered, words_in}
+use Rattle.raster64.specs.Internal.Centres.{centre}
+use Rattle.raster64.specs.Internal.Raster.{is_covered}
 use Rattle.raster64.specs.Span.{is_in_span}
 use Rattle.raster64.proofs.Bounds.{spot_z, picture_sides}
 use Rattle.raster64.proofs.CentreRanges.{range_same}

@@ -1,4 +1,4 @@
-use Rattle.std.proofs.Common.{◌≡◌, w64}
+use Rattle.std.proofs.Common.{w64}
 use Rattle.std.proofs.lemmas.Int.{to_z-of_z}
 use mir.Val.{SFits}
 use Rattle.raster64.proofs.spans.between_edges.Goals as goal

@@ -1,4 +1,4 @@
-use Rattle.std.proofs.Common.{◌≡◌, ◌≤ℤ◌, ◌<ℤ◌, w64, arith}
+use Rattle.std.proofs.Common.{w64, arith}
 use Rattle.std.proofs.lemmas.Int.{ints, to_z-of_z}
 use Rattle.raster64.specs.Internal.Centres.{centre}
 use Rattle.raster64.specs.Span.{crossing_column, is_between, is_in_span}
