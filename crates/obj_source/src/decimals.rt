@@ -32,13 +32,13 @@ struct Run {
 /// A numeral as a whole number times a power of ten.
 #[derive(Clone, Copy)]
 pub(crate) struct Decimal {
-    /// Whether a minus stands first.
+    /// Whether the word begins with a minus.
     pub(crate) is_negative: bool,
     /// The number that the digits that count write.
     pub(crate) digits: u64,
-    /// How many of these digits stand behind the point.
+    /// How many of these digits are after the point.
     pub(crate) behind: usize,
-    /// The number behind the `e`.
+    /// The number after the `e`.
     pub(crate) exponent: i32,
     ghost few_digits: { digits < 10 ^ 18 },
     ghost low: { negsuc 9998 ≤ℤ exponent },
@@ -74,7 +74,7 @@ impl Digits {
     }
 }
 
-/// The digits with which `bytes` begin, behind those read before.
+/// The digits with which `bytes` begin, after those read before.
 fn read_digits(bytes: &[u8], before: Digits) -> Run
     requires room { before.significant + length bytes.now < 2 ^ 64 }
     ensures len { result.len ≡ prefix_len is_ascii_digit bytes.now }
@@ -96,7 +96,7 @@ fn read_digits(bytes: &[u8], before: Digits) -> Run
     }
 }
 
-/// The digits behind the point with which `bytes` begin, and what follows them; where no point stands there,
+/// The digits after the point with which `bytes` begin, and what follows them; if they begin with no point,
 /// no digits and all bytes.
 fn read_fraction(bytes: &[u8], whole: Digits) -> (Run, &[u8])
     requires room { whole.significant + length bytes.now < 2 ^ 64 }
@@ -121,7 +121,7 @@ fn read_fraction(bytes: &[u8], whole: Digits) -> (Run, &[u8])
     }
 }
 
-/// Whether a minus stands first, and the word without the sign that may stand first.
+/// Whether the word begins with a minus, and the word without its sign, if it has one.
 fn split_sign(word: &[u8]) -> (bool, &[u8])
     ensures sign { result.0 ≡ has_minus word.now }
     ensures rest { result.1.now ≡ without_sign word.now }
@@ -151,7 +151,7 @@ fn number_of(word: &[u8]) -> Option<u32>
     Some(number)
 }
 
-/// The number that one to four digits write, behind a sign or not; none for any other word.
+/// The number that one to four digits write, after a sign or not; none for any other word.
 fn exponent_of(word: &[u8]) -> Option<i32>
     ensures value { result ≡ exponent_of word.now }
     ensures small { IfSome result (λ n. (negsuc 9998 ≤ℤ n) × (n ≤ℤ pos 9999)) }
@@ -161,7 +161,7 @@ fn exponent_of(word: &[u8]) -> Option<i32>
     Some(if is_negative { -number } else { number })
 }
 
-/// The number behind the `e` with which `bytes` begin, and 0 where none are left; none for other bytes.
+/// The number after the `e` with which `bytes` begin, and 0 where none are left; none for other bytes.
 fn read_exponent(bytes: &[u8]) -> Option<i32>
     ensures value { result ≡ exponent_behind bytes.now }
     ensures small { IfSome result (λ n. (negsuc 9998 ≤ℤ n) × (n ≤ℤ pos 9999)) }

@@ -4,7 +4,7 @@ ghost use Rattle.obj_source.specs.declared.faults.ObjFault.TheVariants.{Memory};
 use std::alloc::AllocError;
 use thiserror::Error;
 
-/// What is wrong with a line, and where the faulty word stands in it, from 0: the `v` or `f` is word 0.
+/// What is wrong with a line, and the faulty word's number in it, from 0: the `v` or `f` is word 0.
 #[derive(Clone, Copy, Debug, PartialEq, Eq, Error)]
 pub enum ObjWhy {
     /// A word where a coordinate is due is no numeral, or it is missing.
@@ -16,7 +16,7 @@ pub enum ObjWhy {
     /// A corner doesn't begin with a vertex's number.
     #[error("bad corner {0}")]
     BadCorner(u32),
-    /// A corner names no vertex that stands above.
+    /// A corner names no vertex of the lines above.
     #[error("no such vertex {0}")]
     NoSuchVertex(u32),
     /// A face has fewer than three corners.

@@ -1,6 +1,6 @@
 //! Meshes from Wavefront OBJ text: vertices and polygons of any export, with the exact first fault.
 //!
-//! Which triangles a text lists, and which fault is its first, stands in `specs/Mesh.antt`; `read_obj` keeps
+//! Which triangles a text lists, and which fault is its first, is defined in `specs/Mesh.antt`; `read_obj` keeps
 //! it, over a source that gives the text in pieces of any size. `specs/Numerals.antt` says which words are
 //! numerals and which coordinate each gives.
 #![tactic(auto)]

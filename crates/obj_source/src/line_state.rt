@@ -22,7 +22,7 @@ pub(crate) enum LineState {
     Face(Face),
 }
 
-/// What the words behind a `v` gave.
+/// What the words after a `v` gave.
 #[derive(Clone, Copy, Debug)]
 pub(crate) enum Vertex {
     /// No word came.

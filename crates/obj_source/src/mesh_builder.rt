@@ -13,7 +13,7 @@ use geom_core::limits::MAX_TRIANGLES;
 use geom_core::{Pt, Tri};
 use std::alloc::{AllocError, Global};
 
-/// Puts the vertex behind the others.
+/// Appends the vertex to the others.
 fn add_vertex(vertices: &mut Vec<Pt>, vertex: Pt) -> Result<(), AllocError>
     ensures { OnOk result (vertices.new.items ≡ vertices.old.items ++ vertex ∷ []) }
 {
@@ -76,7 +76,7 @@ fn push_corner(
 pub(crate) struct MeshBuilder {
     scale: u32,
     vertices: Vec<Pt>,
-    /// The triangles of the lines before, and behind them those of the open one.
+    /// The triangles of the lines before, and after them those of the open one.
     triangles: Vec<Tri>,
     /// The number of the open line, from 1.
     line: u32,

@@ -16,8 +16,8 @@ pub enum NumberWhy {
 
 /// The coordinate that a word gives on a grid of `scale` steps to the unit.
 ///
-/// A numeral is an optional `+` or `-`, digits with at most one point before, among or behind them, and
-/// perhaps `e` or `E`, an optional sign and one to four digits. Digits behind the point count up to the
+/// A numeral is an optional `+` or `-`, digits with at most one point before, among or after them, and
+/// perhaps `e` or `E`, an optional sign and one to four digits. Digits after the point count up to the
 /// 18th significant one. The value is then exact; times the scale, it is rounded to the nearest whole
 /// number, halves up.
 pub fn read_coordinate(word: &[u8], scale: u32) -> Result<i32, NumberWhy>

@@ -18,9 +18,9 @@ const MAX_KEYWORD_BYTES: usize = 2;
 /// Which part of a line is open.
 #[derive(Clone, Copy, Debug)]
 pub(crate) enum ScanState {
-    /// What stands before the end of the first word.
+    /// What comes before the end of the first word.
     First,
-    /// What stands behind the first word.
+    /// What comes after the first word.
     Later,
     /// A comment, or what doesn't matter any more.
     Skipping,
@@ -116,7 +116,7 @@ impl ObjScanner {
         self.state = ScanState::Skipping;
     }
 
-    /// Takes in the byte behind a word.
+    /// Takes in the byte after a word.
     fn end_token(&mut self, mark: u8) -> Result<(), ObjFault>
         requires room { HasRoom self.old 1 }
         requires mark { ends_word mark ≡ true }

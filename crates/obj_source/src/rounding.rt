@@ -7,7 +7,7 @@ use crate::decimals::Decimal;
 use crate::numbers::NumberWhy;
 use geom_core::limits::MAX_COORDINATE;
 
-/// So many digits behind the point make 0 of any numeral, whatever its exponent.
+/// The number of digits after the point from which on any numeral is 0, whatever its exponent.
 const MAX_DECIMAL_PLACES: usize = 20_000;
 
 /// One step times the next power of ten is outside of the grid.
