@@ -9,7 +9,7 @@ pub const ROOM: usize = 16;
 /// A sink that keeps the list of its puts, as long as there are at most 16.
 #[derive(Drop)]
 pub struct Recorder {
-    /// The puts, after what was there before.
+    /// The puts, and after them what was there before.
     pub puts: [(u32, u64); ROOM],
     /// How many puts came.
     pub count: usize,
