@@ -1,5 +1,6 @@
 use crate::{Edge, EdgeTable, Rim};
-use geom_core::{Pt, Tri};
+use geom_core::{Memory, Pt, Tri};
+use std::alloc::Global;
 use std::test::Fail;
 
 const A: Pt = Pt { x: 0, y: 0, z: 0 };
@@ -113,5 +114,89 @@ fn a_square_has_the_rim_of_its_sides(rt: HostRuntime) -> Result<(), Fail> {
     assert_eq!(rt; rim.sums(), [-1, 1, -1, 1].as_slice());
     let points = rim.points(rt.alloc()).map_err(|_| "memory")?;
     assert_eq!(rt; points.as_slice(), [A, D, B, C].as_slice());
+    Ok(())
+}
+
+/// The rim of three short lists joined, from the rim of each.
+fn joined_rim(alloc: Global, first: &[Tri], second: &[Tri], third: &[Tri]) -> Result<Rim, Memory> {
+    if first.len() > 4 || second.len() > 4 || third.len() > 4 {
+        return Err(Memory);
+    }
+    let a = Rim::of(alloc, first)?;
+    let b = Rim::of(alloc, second)?;
+    let c = Rim::of(alloc, third)?;
+    let joined = Rim::joined(alloc, &[&a, &b, &c])?;
+    Ok(joined)
+}
+
+/// The point that a letter names.
+fn point(letter: u8) -> Pt {
+    match letter {
+        b'A' => A,
+        b'B' => B,
+        b'C' => C,
+        b'D' => D,
+        _ => MIDDLE,
+    }
+}
+
+/// The triangles that a text names, three letters each.
+fn tris_of(alloc: Global, text: &str) -> Result<Vec<Tri>, Memory> {
+    let mut tris = Vec::new(alloc);
+    for corners in text.as_bytes().chunks(3) {
+        if let [a, b, c] = corners {
+            tris.push(tri(point(*a), point(*b), point(*c)))?;
+        }
+    }
+    Ok(tris)
+}
+
+/// Whether the rims of three lists, joined, are the rim of a fourth.
+fn joins_to(alloc: Global, parts: [&str; 3], whole: &str) -> Result<bool, Memory> {
+    let first = tris_of(alloc, parts[0])?;
+    let second = tris_of(alloc, parts[1])?;
+    let third = tris_of(alloc, parts[2])?;
+    let joined = joined_rim(alloc, &first, &second, &third)?;
+    let tris = tris_of(alloc, whole)?;
+    if tris.len() > 4 {
+        return Err(Memory);
+    }
+    let rim = Rim::of(alloc, &tris)?;
+    Ok(joined.has_same(&rim))
+}
+
+#[test]
+fn rims_add_up(rt: HostRuntime) -> Result<(), Fail> {
+    // name, three lists, a list with the rim of all
+    let cases = [
+        ("none", ["", "", ""], ""),
+        ("one", ["", "ABC", ""], "ABC"),
+        ("halves", ["ABMBCM", "", "CDMDAM"], "ABCACD"),
+        ("three times", ["ABC", "ABC", "ABC"], "ABCABCABC"),
+        ("only all three cancel", ["ABCABC", "CBA", "CBA"], ""),
+        ("two cancel", ["CBA", "ABC", "CBA"], "CBA"),
+    ];
+    for (name, parts, whole) in cases {
+        let joins = joins_to(rt.alloc(), parts, whole).map_err(|_| "memory")?;
+        assert!(rt; joins, "{name}");
+    }
+    Ok(())
+}
+
+#[test]
+fn rims_are_compared(rt: HostRuntime) -> Result<(), Fail> {
+    // name, one list, another, whether their rims are the same
+    let cases = [
+        ("none", "", "", true),
+        ("turned corners", "ABC", "BCA", true),
+        ("two ways to fill a square", "ABCACD", "ABMBCMCDMDAM", true),
+        ("other sums", "ABC", "ABCABC", false),
+        ("other direction", "ABC", "CBA", false),
+        ("fewer edges", "ABC", "ABCDAB", false),
+    ];
+    for (name, one, other, same) in cases {
+        let agree = joins_to(rt.alloc(), [one, "", ""], other).map_err(|_| "memory")?;
+        assert_eq!(rt; agree, same, "{name}");
+    }
     Ok(())
 }
