@@ -1,9 +1,10 @@
 -- Rims that are joined piece by piece.
-use Rattle.std.proofs.Common.{◌≡◌, ◌≤◌, ◌+◌, List, [], ◌∷◌, ◌++◌, length, map, take, refl, sym, ap, ◌∙◌, subst, arith}
+use Rattle.std.proofs.Common.{◌≡◌, ◌≤◌, ◌+◌, Bool, true, false, ◌&&◌, List, [], ◌∷◌, ◌++◌, length, get_or, All, map, take, refl, sym, ap, ◌∙◌, subst, arith}
 use Rattle.std.proofs.lemmas.List.{append-nil, append_assoc, length-append, take_all}
 use Rattle.std.proofs.lemmas.Grind.{flat_map-append}
 use Rattle.geom_core.specs.declared.limits.TheConstants.{MAX_SUMMED_TRIANGLES}
 use Rattle.geom_core.specs.declared.triangles.Tri.{Tri}
+use Rattle.geom_core.specs.Limits.{IsGridTriangle, HasGridCorners, has_grid_corners, has_distinct_corners}
 use Rattle.half_mesh.specs.Rim.{EdgeSums, IsRimOf, AreRimsOf, HaveSmallSums, all_of}
 use Rattle.half_mesh.proofs.RimLaws.{few_have_small_sums}
 
@@ -38,3 +39,11 @@ rest_is_few tris rest lists whole = omega (arith, ap length whole, length-append
 pub all_joined : (tris rest : List Tri) (lists : List (List Tri)) → tris ≡ all_of lists ++ rest → length rest ≡ 0 → all_of lists ≡ tris
 all_joined tris [] lists whole none = sym (whole ∙ append-nil (all_of lists))
 all_joined tris (t ∷ rest) lists whole none = absurd (omega arith)
+
+-- a triangle of a mesh has corners of one
+pub grid_corners : (tris : List Tri) → All IsGridTriangle tris → All HasGridCorners tris
+grid_corners tris each k d in_bounds = first (has_grid_corners (get_or tris k d)) (has_distinct_corners (get_or tris k d)) (each k d in_bounds)
+  where
+    first : (a b : Bool) → a && b ≡ true → a ≡ true
+    first true b h = refl
+    first false b h = h

@@ -2,29 +2,32 @@
 //!
 //! `geode_bench WORK` reads OBJ text on standard input at 1,024 to a unit. WORK is `read`, which only
 //! makes the list of triangles; `sort`, which sorts the list's directed edges by std's sort; `edges`,
-//! which makes the table of edges; or `clusters`, which cuts the triangles into clusters. Scripts time it
-//! from outside: a piece's time is its run less that of `read`. What it prints depends on the mesh alone.
+//! which makes the table of edges; `rims`, which makes the rim of the whole list; `joined-rims`, which makes the
+//! rims of pieces of 128 triangles and joins them by eights; or `clusters`, which cuts the triangles into
+//! clusters. Scripts time it from outside: a piece's time is its run less that of `read`. What it prints depends on the mesh alone.
 #![tactic(auto)]
 
+ghost use Rattle.geom_core.specs.Limits.{AreGridTriangles};
+
+mod rims;
 mod works;
 
+use geom_core::limits::STEPS_PER_UNIT;
 use geom_core::{Memory, Tri};
 use obj_source::read_obj;
 use span_io::StdSource;
 use std::env;
 use std::process::ExitCode;
-use works::{Work, can_be_cut, count_clusters, count_edges, sort_edges};
-
-/// The most triangles that the table of edges takes.
-const MOST: usize = 1_073_741_824;
+use rims::count_joined_rims;
+use works::{Work, count_clusters, count_edges, count_rim, sort_edges};
 
 fn main(rt: HostRuntime) -> ExitCode {
     let Some(work) = work_of(&rt) else {
-        let _ = eprintln!(rt; "geode_bench: one of read, sort, edges, clusters");
+        let _ = eprintln!(rt; "geode_bench: one of read, sort, edges, rims, joined-rims, clusters");
         return ExitCode::from(2);
     };
     let mut input = StdSource::of(rt.stdin());
-    let Ok(tris) = read_obj(rt.alloc(), &mut input, 1024) else {
+    let Ok(tris) = read_obj(rt.alloc(), &mut input, STEPS_PER_UNIT) else {
         let _ = eprintln!(rt; "geode_bench: no mesh");
         return ExitCode::FAILURE;
     };
@@ -45,12 +48,11 @@ fn work_of(rt: &HostRuntime) -> Option<Work> {
 }
 
 /// Does the work, and prints its counts.
-fn run(rt: &HostRuntime, work: Work, tris: &[Tri]) -> Result<(), Memory> {
+fn run(rt: &HostRuntime, work: Work, tris: &[Tri]) -> Result<(), Memory>
+    requires mesh { AreGridTriangles tris.now }
+{
     let count = tris.len();
     let _ = println!(rt; "triangles {count}");
-    if count > MOST {
-        return Ok(());
-    }
     match work {
         Work::Read => {}
         Work::Sort => {
@@ -61,18 +63,18 @@ fn run(rt: &HostRuntime, work: Work, tris: &[Tri]) -> Result<(), Memory> {
             let (edges, sum) = count_edges(rt.alloc(), tris)?;
             let _ = println!(rt; "rim {edges} sum {sum}");
         }
-        Work::Clusters => cut(rt, tris)?,
+        Work::Rims => {
+            let (edges, sum) = count_rim(rt.alloc(), tris)?;
+            let _ = println!(rt; "rim {edges} sum {sum}");
+        }
+        Work::JoinedRims => {
+            let edges = count_joined_rims(rt.alloc(), tris)?;
+            let _ = println!(rt; "edges of joined rims {edges}");
+        }
+        Work::Clusters => {
+            let (clusters, sum) = count_clusters(rt.alloc(), tris)?;
+            let _ = println!(rt; "clusters {clusters} sum {sum}");
+        }
     }
-    Ok(())
-}
-
-/// Cuts the triangles into clusters, and prints the counts.
-fn cut(rt: &HostRuntime, tris: &[Tri]) -> Result<(), Memory> {
-    if !can_be_cut(tris) {
-        let _ = println!(rt; "no clusters");
-        return Ok(());
-    }
-    let (clusters, sum) = count_clusters(rt.alloc(), tris)?;
-    let _ = println!(rt; "clusters {clusters} sum {sum}");
     Ok(())
 }

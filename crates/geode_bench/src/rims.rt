@@ -1,7 +1,7 @@
-ghost use Rattle.std.specs.Prelude.{◌≡◌, ◌≤◌, ◌++◌, IfOk, List, length, map};
-ghost use Rattle.geom_core.specs.declared.limits.TheConstants.{MAX_SUMMED_TRIANGLES, TRIANGLES_PER_CLUSTER};
-ghost use Rattle.geom_core.specs.declared.triangles.Tri.{Tri};
-ghost use Rattle.half_mesh.specs.Rim.{AreRimsOf, IsRimOf, all_of};
+ghost use Rattle.std.specs.Prelude.{◌≤◌, IfOk, length};
+ghost use Rattle.geom_core.specs.declared.limits.TheConstants.{MAX_SUMMED_TRIANGLES};
+ghost use Rattle.geom_core.specs.Limits.{AreGridTriangles};
+ghost use Rattle.half_mesh.specs.Rim.{IsRimOf};
 
 use geom_core::limits::{CLUSTERS_PER_GROUP, TRIANGLES_PER_CLUSTER};
 use geom_core::{Memory, Tri};
@@ -16,7 +16,7 @@ const GROUP: usize = CLUSTERS_PER_GROUP as usize * PIECE;
 
 /// How many edges the rims of groups of eight pieces have, each joined from the pieces' rims.
 pub fn count_joined_rims(alloc: Global, tris: &[Tri]) -> Result<usize, Memory>
-    requires triangle_limit { length tris.now ≤ MAX_SUMMED_TRIANGLES }
+    requires mesh { AreGridTriangles tris.now }
 {
     let mut count = 0usize;
     let mut rest = tris;

@@ -1,8 +1,7 @@
-ghost use Rattle.std.specs.Prelude.{◌≡◌, ◌≤◌, ◌^◌, ◌+ℤ◌, ◌≤ℤ◌, IsTrue, All, length};
-ghost use Rattle.partition.specs.Ranges.{IsMeshCoordinate, IsMeshPoint, IsMeshTriangle};
+ghost use Rattle.geom_core.specs.Limits.{AreGridTriangles};
 
 use geom_core::{Memory, Pt, Tri};
-use half_mesh::EdgeTable;
+use half_mesh::{EdgeTable, Rim};
 use partition::cut_clusters;
 use std::alloc::Global;
 
@@ -15,6 +14,10 @@ pub enum Work {
     Sort,
     /// The table of edges.
     Edges,
+    /// The rim of all triangles.
+    Rims,
+    /// The rims of pieces of the list, joined by eights.
+    JoinedRims,
     /// The triangles cut into clusters.
     Clusters,
 }
@@ -26,6 +29,8 @@ impl Work {
             "read" => Some(Work::Read),
             "sort" => Some(Work::Sort),
             "edges" => Some(Work::Edges),
+            "rims" => Some(Work::Rims),
+            "joined-rims" => Some(Work::JoinedRims),
             "clusters" => Some(Work::Clusters),
             _ => None,
         }
@@ -43,7 +48,7 @@ struct Directed {
 
 /// How many directed edges the triangles have, after sorting them.
 pub fn sort_edges(alloc: Global, tris: &[Tri]) -> Result<usize, Memory>
-    requires { length tris.now ≤ 2 ^ 30 }
+    requires mesh { AreGridTriangles tris.now }
 {
     let mut edges = Vec::with_capacity(alloc, 3 * tris.len())?;
     for tri in tris {
@@ -66,7 +71,7 @@ pub fn sort_edges(alloc: Global, tris: &[Tri]) -> Result<usize, Memory>
 
 /// How many edges the rim has, and their sums' sizes added up.
 pub fn count_edges(alloc: Global, tris: &[Tri]) -> Result<(usize, u64), Memory>
-    requires { length tris.now ≤ 2 ^ 30 }
+    requires mesh { AreGridTriangles tris.now }
 {
     let table = EdgeTable::of(alloc, tris)?;
     let mut total = 0u64;
@@ -77,39 +82,21 @@ pub fn count_edges(alloc: Global, tris: &[Tri]) -> Result<(usize, u64), Memory>
     Ok((table.rim().len(), total))
 }
 
-/// Whether the triangles can be cut into clusters: few enough, and each within the range of a mesh.
-pub fn can_be_cut(tris: &[Tri]) -> bool
-    ensures few { IsTrue result → length tris.now ≤ 2 ^ 20 }
-    ensures in_range { IsTrue result → All IsMeshTriangle tris.now }
+/// How many edges the rim has, and their sums' sizes added up.
+pub fn count_rim(alloc: Global, tris: &[Tri]) -> Result<(usize, u64), Memory>
+    requires mesh { AreGridTriangles tris.now }
 {
-    tris.len() <= 1_048_576 && tris.iter().all(|t| is_in_range(*t))
-}
-
-/// Whether the triangle's corners are within the range of a mesh.
-fn is_in_range(t: Tri) -> bool
-    ensures { IsTrue result → IsMeshTriangle t }
-{
-    point_is_in_range(t.a) && point_is_in_range(t.b) && point_is_in_range(t.c)
-}
-
-/// Whether the point is within the range of a mesh.
-fn point_is_in_range(p: Pt) -> bool
-    ensures { IsTrue result → IsMeshPoint p }
-{
-    coordinate_is_in_range(p.x) && coordinate_is_in_range(p.y) && coordinate_is_in_range(p.z)
-}
-
-/// Whether the coordinate is within the range of a mesh.
-fn coordinate_is_in_range(n: i32) -> bool
-    ensures { IsTrue result → IsMeshCoordinate n }
-{
-    -1_048_576 <= n && n <= 1_048_576
+    let rim = Rim::of(alloc, tris)?;
+    let mut total = 0u64;
+    for sum in rim.sums() {
+        total = total.saturating_add(u64::from(sum.unsigned_abs()));
+    }
+    Ok((rim.edges().len(), total))
 }
 
 /// How many clusters there are, and the sum of each triangle's number times its place, from 1.
 pub fn count_clusters(alloc: Global, tris: &[Tri]) -> Result<(usize, u64), Memory>
-    requires few { length tris.now ≤ 2 ^ 20 }
-    requires in_range { All IsMeshTriangle tris.now }
+    requires mesh { AreGridTriangles tris.now }
 {
     let clusters = cut_clusters(alloc, tris)?;
     let mut place = 0u64;
