@@ -15,10 +15,10 @@ mod works;
 use geom_core::limits::STEPS_PER_UNIT;
 use geom_core::{Memory, Tri};
 use obj_source::read_obj;
+use rims::count_joined_rims;
 use span_io::StdSource;
 use std::env;
 use std::process::ExitCode;
-use rims::count_joined_rims;
 use works::{Work, count_clusters, count_edges, count_rim, sort_edges};
 
 fn main(rt: HostRuntime) -> ExitCode {
