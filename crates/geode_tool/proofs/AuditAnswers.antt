@@ -11,8 +11,8 @@ use Rattle.journal.specs.declared.journals.JournalFault.{JournalFault}
 use Rattle.journal.specs.declared.journals.JournalFault.TheVariants as journal
 use Rattle.residency.specs.declared.pools.ReplayFault.{ReplayFault}
 use Rattle.residency.specs.declared.pools.ReplayFault.TheVariants as replay
-use Rattle.geode_tool.specs.declared.read_input.TextFault.{TextFault}
-use Rattle.geode_tool.specs.declared.read_input.TextFault.TheVariants as text
+use Rattle.span_io.specs.declared.texts.TextFault.{TextFault}
+use Rattle.span_io.specs.declared.texts.TextFault.TheVariants as text
 use Rattle.geode_tool.specs.declared.faults.Done.{Done}
 use Rattle.geode_tool.specs.declared.faults.Done.TheVariants.{Audited}
 use Rattle.geode_tool.specs.declared.faults.Fault.{Fault}
@@ -20,7 +20,7 @@ use Rattle.geode_tool.specs.declared.faults.Fault.TheVariants.{Usage, ReadFault,
 use Rattle.geode_tool.specs.Audit.{audit_answer, judged, verdict_of, IsAudited, AuditRefused, JudgeRefused}
 use Rattle.geode_tool.specs.Commands.{AnswersOrFails}
 use Rattle.geode_tool.specs.Faults.{fault_of_journal, fault_of_replay, fault_of_text}
-use Rattle.geode_tool.specs.Texts.{IsText, TextRefused}
+use Rattle.span_io.specs.Texts.{IsText, TextRefused}
 
 is_short : (n : ℕ) → n ≤ 2 ^ 26 → nat_le n (2 ^ 26) ≡ true
 is_short n le = grind arith
@@ -75,10 +75,17 @@ too_long : (input : Option (List ℕ)) → IfSome input (λ text. 2 ^ 26 < lengt
 too_long None longer = tt
 too_long (Some text) longer = audit_answer-long text longer
 
+-- no refusal lets the count of faults fall
+pub text_count : (input new_input : Option (List ℕ)) (faults new_faults : ℕ) (fault : TextFault) →
+    TextRefused (2 ^ 26) input new_input faults new_faults fault → faults ≤ new_faults
+text_count input new_input faults new_faults text.Read refused = refused.rose.never_falls
+text_count input new_input faults new_faults text.TooLong refused = omega (arith, refused.no_fault)
+text_count input new_input faults new_faults text.Memory refused = omega (arith, refused)
+
 pub text_refused : (r : Result ℕ Fault) (input new_input : Option (List ℕ)) (faults new_faults : ℕ) (fault : TextFault) → IsErr r × IsErrAnd r (λ e. e ≡ fault_of_text fault) → TextRefused (2 ^ 26) input new_input faults new_faults fault → IfErr r (AuditRefused input faults new_faults)
 text_refused (Ok count) input new_input faults new_faults fault becomes refused = absurd becomes.1
 text_refused (Err e) input new_input faults new_faults text.Read becomes refused =
-    subst (AuditRefused input faults new_faults) (sym becomes.1) refused
+    subst (AuditRefused input faults new_faults) (sym becomes.1) refused.rose
 text_refused (Err e) input new_input faults new_faults text.TooLong becomes refused =
     subst (AuditRefused input faults new_faults) (sym becomes.1) (too_long input refused.longer)
 text_refused (Err e) input new_input faults new_faults text.Memory becomes refused =

@@ -7,5 +7,4 @@ pub mod DrawWords
 pub mod DrawnItems
 pub mod NumberParts
 pub mod Numerals
-pub mod TakenTexts
 pub mod WordExamples

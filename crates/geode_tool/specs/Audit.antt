@@ -6,7 +6,7 @@ use Rattle.span_io.specs.Faults.{Rose}
 use Rattle.journal.specs.Grammar.{journal_of}
 use Rattle.pool_rules.specs.Rules.{first_refused}
 use Rattle.journal.specs.declared.journals.Journal.{Journal}
-use Rattle.geode_tool.specs.Texts.{IsText}
+use Rattle.span_io.specs.Texts.{IsText}
 use Rattle.geode_tool.specs.declared.faults.Done.{Done}
 use Rattle.geode_tool.specs.declared.faults.Done.TheVariants.{Audited}
 use Rattle.geode_tool.specs.declared.faults.Fault.{Fault}

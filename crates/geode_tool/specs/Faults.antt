@@ -5,8 +5,8 @@ use Rattle.journal.specs.declared.journals.JournalFault.{JournalFault}
 use Rattle.journal.specs.declared.journals.JournalFault.TheVariants as journal
 use Rattle.residency.specs.declared.pools.ReplayFault.{ReplayFault}
 use Rattle.residency.specs.declared.pools.ReplayFault.TheVariants as replay
-use Rattle.geode_tool.specs.declared.read_input.TextFault.{TextFault}
-use Rattle.geode_tool.specs.declared.read_input.TextFault.TheVariants as text
+use Rattle.span_io.specs.declared.texts.TextFault.{TextFault}
+use Rattle.span_io.specs.declared.texts.TextFault.TheVariants as text
 use Rattle.geode_tool.specs.declared.faults.Fault.{Fault}
 use Rattle.geode_tool.specs.declared.faults.Fault.TheVariants.{ReadFault, TooLong, BadObj, TooMany, Empty, BadJournal, Illegal, Memory}
 

@@ -4,5 +4,4 @@ pub mod Draw
 pub mod Faults
 pub mod Outputs
 pub mod Statuses
-pub mod Texts
 pub mod Words

@@ -6,17 +6,16 @@ ghost use Rattle.geode_tool.specs.Audit.{audit_answer, verdict_text, IsAudited, 
 ghost use Rattle.geode_tool.specs.Audit.{AuditRefused, JudgeRefused};
 ghost use Rattle.geode_tool.specs.Commands.{AnswersOrFails, may_refuse};
 ghost use Rattle.geode_tool.specs.Outputs.{WritesPrefix};
-ghost use Rattle.geode_tool.specs.Texts.{ReadToEnd};
+ghost use Rattle.span_io.specs.Reads.{ReadToEnd};
 ghost use Rattle.geode_tool.specs.declared.commands.Command.TheVariants as Command;
 
 use crate::faults::{Done, Fault};
-use crate::read_input::read_at_most;
 use crate::write_output::write_whole;
 use geom_core::Memory;
 use geom_core::limits::MAX_JOURNAL_BYTES;
 use journal::{Journal, read_journal};
 use residency::Pool;
-use span_io::{Sink, Source};
+use span_io::{Sink, Source, read_text};
 use std::alloc::Global;
 
 /// Reads the text of a journal and writes the number of its entries, if each entry was allowed.
@@ -61,7 +60,7 @@ fn legal_entries<S: Source>(alloc: Global, input: &mut S) -> Result<u64, Fault>
         (AuditRefused (S.left input.old) (S.faults input.old) (S.faults input.new)) }
     ensures fault_count { S.faults input.old ≤ S.faults input.new }
 {
-    let text = read_at_most(alloc, input, MAX_JOURNAL_BYTES as usize)?;
+    let text = read_text(alloc, input, MAX_JOURNAL_BYTES as usize)?;
     entries_of(alloc, &text)
 }
 

@@ -4,7 +4,7 @@ ghost use Rattle.geom_core.specs.Limits.{IsPicture};
 ghost use Rattle.geode_tool.specs.Commands.{AnswersOrFails, may_refuse};
 ghost use Rattle.geode_tool.specs.Draw.{draw_answer, IsPictureText, DrawRefused};
 ghost use Rattle.geode_tool.specs.Outputs.{WritesAll, WritesPrefix};
-ghost use Rattle.geode_tool.specs.Texts.{ReadToEnd};
+ghost use Rattle.span_io.specs.Reads.{ReadToEnd};
 ghost use Rattle.geode_tool.specs.declared.commands.Command.TheVariants as Command;
 
 use crate::commands::DrawRequest;

@@ -1,11 +1,11 @@
 ghost use Rattle.std.specs.Prelude.{◌≡◌};
 ghost use Rattle.geode_tool.specs.Statuses.{status_of};
 
-use crate::read_input::TextFault;
 use geom_core::Memory;
 use journal::JournalFault;
 use obj_source::{ObjFault, ObjWhy};
 use residency::ReplayFault;
+use span_io::TextFault;
 use thiserror::Error;
 
 /// What a command did, if it succeeded.

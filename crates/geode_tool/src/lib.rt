@@ -12,7 +12,6 @@ mod commands;
 mod draw_command;
 mod draw_mesh;
 mod faults;
-mod read_input;
 #[cfg(test)]
 mod tests;
 mod tool;

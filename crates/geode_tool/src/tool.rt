@@ -5,7 +5,7 @@ ghost use Rattle.geode_tool.specs.Audit.{verdict_text, IsAudited};
 ghost use Rattle.geode_tool.specs.Commands.{asked, answer_of, is_own, may_refuse, IsOutput, AnswersOrFails};
 ghost use Rattle.geode_tool.specs.Draw.{IsPictureText};
 ghost use Rattle.geode_tool.specs.Outputs.{WritesAll, WritesPrefix};
-ghost use Rattle.geode_tool.specs.Texts.{ReadToEnd};
+ghost use Rattle.span_io.specs.Reads.{ReadToEnd};
 ghost use Rattle.geode_tool.specs.declared.commands.Command.{Command};
 ghost use Rattle.geode_tool.specs.declared.commands.DrawRequest.{DrawRequest};
 
