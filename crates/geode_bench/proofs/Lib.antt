@@ -1,1 +1,1 @@
-pub mod JoinLaws
+pub mod GridLaws
