@@ -1,1 +1,1 @@
-pub mod GridLaws
+pub mod JoinLaws

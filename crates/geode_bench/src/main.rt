@@ -2,18 +2,20 @@
 //!
 //! `geode_bench WORK` reads OBJ text on standard input at 1,024 to a unit. WORK is `read`, which only
 //! makes the list of triangles; `sort`, which sorts the list's directed edges by std's sort; `edges`,
-//! which makes the table of edges; `rims`, which makes the rim of the whole list; or `clusters`, which cuts the
-//! triangles into clusters. Scripts time it from outside: a piece's time is its run less that of `read`. What it
-//! prints depends on the mesh alone.
+//! which makes the table of edges; `rims`, which makes the rim of the whole list; `joined-rims`, which makes the
+//! rims of pieces of 128 triangles and joins them by eights; or `clusters`, which cuts the triangles into
+//! clusters. Scripts time it from outside: a piece's time is its run less that of `read`. What it prints depends on the mesh alone.
 #![tactic(auto)]
 
 ghost use Rattle.geom_core.specs.Limits.{AreGridTriangles};
 
+mod rims;
 mod works;
 
 use geom_core::limits::STEPS_PER_UNIT;
 use geom_core::{Memory, Tri};
 use obj_source::read_obj;
+use rims::count_joined_rims;
 use span_io::StdSource;
 use std::env;
 use std::process::ExitCode;
@@ -21,7 +23,7 @@ use works::{Work, count_clusters, count_edges, count_rim, sort_edges};
 
 fn main(rt: HostRuntime) -> ExitCode {
     let Some(work) = work_of(&rt) else {
-        let _ = eprintln!(rt; "geode_bench: one of read, sort, edges, rims, clusters");
+        let _ = eprintln!(rt; "geode_bench: one of read, sort, edges, rims, joined-rims, clusters");
         return ExitCode::from(2);
     };
     let mut input = StdSource::of(rt.stdin());
@@ -64,6 +66,10 @@ fn run(rt: &HostRuntime, work: Work, tris: &[Tri]) -> Result<(), Memory>
         Work::Rims => {
             let (edges, sum) = count_rim(rt.alloc(), tris)?;
             let _ = println!(rt; "rim {edges} sum {sum}");
+        }
+        Work::JoinedRims => {
+            let edges = count_joined_rims(rt.alloc(), tris)?;
+            let _ = println!(rt; "edges of joined rims {edges}");
         }
         Work::Clusters => {
             let (clusters, sum) = count_clusters(rt.alloc(), tris)?;

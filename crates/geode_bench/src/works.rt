@@ -16,6 +16,8 @@ pub enum Work {
     Edges,
     /// The rim of all triangles.
     Rims,
+    /// The rims of pieces of the list, joined by eights.
+    JoinedRims,
     /// The triangles cut into clusters.
     Clusters,
 }
@@ -28,6 +30,7 @@ impl Work {
             "sort" => Some(Work::Sort),
             "edges" => Some(Work::Edges),
             "rims" => Some(Work::Rims),
+            "joined-rims" => Some(Work::JoinedRims),
             "clusters" => Some(Work::Clusters),
             _ => None,
         }
@@ -92,7 +95,6 @@ pub fn count_rim(alloc: Global, tris: &[Tri]) -> Result<(usize, u64), Memory>
 }
 
 /// How many clusters there are, and the sum of each triangle's number times its place, from 1.
-#[tactic(auto, using(crate::proofs::GridLaws::grid_corners))]
 pub fn count_clusters(alloc: Global, tris: &[Tri]) -> Result<(usize, u64), Memory>
     requires mesh { AreGridTriangles tris.now }
 {
