@@ -1,5 +1,5 @@
 -- Rims that are joined piece by piece.
-use Rattle.std.proofs.Common.{◌≡◌, ◌≤◌, ◌+◌, Bool, true, false, ◌&&◌, List, [], ◌∷◌, ◌++◌, length, get_or, All, map, take, refl, sym, ap, ◌∙◌, subst, arith}
+use Rattle.std.proofs.Common.{◌≡◌, ℕ, ◌≤◌, ◌+◌, Bool, true, false, ◌&&◌, List, [], ◌∷◌, ◌++◌, length, get_or, All, map, take, refl, sym, ap, ◌∙◌, subst, arith}
 use Rattle.std.proofs.lemmas.List.{append-nil, append_assoc, length-append, take_all}
 use Rattle.std.proofs.lemmas.Grind.{flat_map-append}
 use Rattle.geom_core.specs.declared.limits.TheConstants.{MAX_SUMMED_TRIANGLES}
@@ -47,3 +47,14 @@ grid_corners tris each k d in_bounds = first (has_grid_corners (get_or tris k d)
     first : (a b : Bool) → a && b ≡ true → a ≡ true
     first true b h = refl
     first false b h = h
+
+-- references to all rims
+pub all_referred : {X : Type 0} (now : X → EdgeSums) (parts listed : List X) (rims items : List EdgeSums) (i : ℕ) → listed ≡ parts →
+    map now parts ≡ take i items → length items ≤ i → items ≡ rims → map now listed ≡ rims
+all_referred now parts listed rims items i are so_far past same = ap (map now) are ∙ so_far ∙ take_all i items past ∙ same
+
+pub small_joined : (tris rest : List Tri) (rims : List EdgeSums) →
+    (lists : List (List Tri)) × AreRimsOf lists rims × (tris ≡ all_of lists ++ rest) → length tris ≤ MAX_SUMMED_TRIANGLES →
+    HaveSmallSums rims
+small_joined tris rest rims (lists, are, whole) few =
+    few_have_small_sums lists rims are (omega (arith, ap length whole, length-append (all_of lists) rest))
