@@ -35,10 +35,12 @@ unfolding drawn
 drawn_from view size item a b c is_a is_b is_c =
     ap (λ (o : Option Spot). words_of_spots o b c item.cluster item.place size) is_a
     ∙ ap (λ (o : Option Spot). words_of_spots (spot_of view size item.tri.a) o c item.cluster item.place size) is_b
-    ∙ ap (λ (o : Option Spot). words_of_spots (spot_of view size item.tri.a) (spot_of view size item.tri.b) o item.cluster item.place size) is_c
+    ∙ ap (λ (o : Option Spot). words_of_spots (spot_of view size item.tri.a) (spot_of view size item.tri.b) o
+    item.cluster item.place size) is_c
 
 pub drawn-seen : (view : View) (size : Size) (item : Item) (a b c : Spot) →
-    Some a ≡ spot_of view size item.tri.a → Some b ≡ spot_of view size item.tri.b → Some c ≡ spot_of view size item.tri.c →
+    Some a ≡ spot_of view size item.tri.a →
+    Some b ≡ spot_of view size item.tri.b → Some c ≡ spot_of view size item.tri.c →
     words_of a b c item.cluster item.place size ≡ drawn view size item
 drawn-seen view size item a b c = drawn_from view size item (Some a) (Some b) (Some c)
 
@@ -57,13 +59,16 @@ drawn-second_hidden view size item a is_a e before =
     after_nothing before (drawn view size item) (drawn_from view size item (Some a) None _ is_a e refl)
 
 pub drawn-third_hidden : (view : View) (size : Size) (item : Item) (a b : Spot) →
-    Some a ≡ spot_of view size item.tri.a → Some b ≡ spot_of view size item.tri.b → None ≡ spot_of view size item.tri.c →
+    Some a ≡ spot_of view size item.tri.a →
+    Some b ≡ spot_of view size item.tri.b → None ≡ spot_of view size item.tri.c →
     (before : List (ℕ × ℕ)) → before ≡ before ++ drawn view size item
 drawn-third_hidden view size item a b is_a is_b e before =
     after_nothing before (drawn view size item) (drawn_from view size item (Some a) (Some b) None is_a is_b e)
 
 pub drawn-off_screen : (view : View) (size : Size) (item : Item) (a b c : Spot) →
-    Some a ≡ spot_of view size item.tri.a → Some b ≡ spot_of view size item.tri.b → Some c ≡ spot_of view size item.tri.c →
-    words_of a b c item.cluster item.place size ≡ [] → (before : List (ℕ × ℕ)) → before ≡ before ++ drawn view size item
+    Some a ≡ spot_of view size item.tri.a →
+    Some b ≡ spot_of view size item.tri.b → Some c ≡ spot_of view size item.tri.c →
+    words_of a b c item.cluster item.place size ≡ [] →
+    (before : List (ℕ × ℕ)) → before ≡ before ++ drawn view size item
 drawn-off_screen view size item a b c is_a is_b is_c none before =
     after_nothing before (drawn view size item) (sym none ∙ drawn-seen view size item a b c is_a is_b is_c)
