@@ -2,7 +2,7 @@
 use Rattle.std.proofs.Common.{◌≡◌, ℕ, ◌-◌, ◌^◌, List, [], ◌∷◌, Bool, true, false, None, Some, Ok, Err, inl, inr, refl, arith, lit<, lit≤}
 use Rattle.span_io.specs.declared.sources.Got.TheVariants as got
 use Rattle.span_io.specs.declared.sinks.Took.TheVariants as took
-use Rattle.span_io.specs.Consumers.{FeedDoes, FedAll, FedToEnd, FedToFailure, FedToLimit, FedToStop}
+use Rattle.span_io.specs.Consumers.{FeedDoes, FedToEnd, FedToFailure, FedToLimit, FedToStop}
 use Rattle.span_io.specs.declared.consumers.Fed.TheVariants as fed
 use Rattle.span_io.specs.Faults.{raised, Rose}
 use Rattle.span_io.specs.Plans.{Plan}
@@ -169,6 +169,7 @@ fed_to_stop_2 = record {
   consumed = refl;
   limited = lit≤ tt;
   within = lit≤ tt;
+  one_read = lit≤ tt;
   state = 1 ∷ [];
   went_on = refl;
   stopped = (refl, refl);
