@@ -25,7 +25,8 @@ fed_all HasFed limit left new_left count consumer so_far short =
       fed = subst (HasFed consumer) (take_all limit so_far.bytes within) so_far.fed;
     }
 
-take_over : (n : ℕ) (front rest : List ℕ) → length front ≤ n → take n (front ++ rest) ≡ front ++ take (n - length front) rest
+-- the first n of two lists, of which the first is no longer
+pub take_over : (n : ℕ) (front rest : List ℕ) → length front ≤ n → take n (front ++ rest) ≡ front ++ take (n - length front) rest
 take_over n front rest short =
     let e : n ≡ length front + (n - length front) = omega arith in
     ap (λ m. take m (front ++ rest)) e ∙ take-append-add front rest (n - length front)
