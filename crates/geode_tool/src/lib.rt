@@ -17,5 +17,6 @@ mod tests;
 mod tool;
 mod write_output;
 
+pub use commands::{Command, DrawRequest};
 pub use faults::{Done, Fault, UsageKind};
 pub use tool::geode;
