@@ -136,11 +136,11 @@ promise-done command left new_left faults new_faults written new_written flushed
 no_words : (command : Command) (kind : UsageKind) → MayReturn command (Usage kind) → ⊥
 no_words (Draw request) kind may = elim may [
   | inl outside ↦ cc
-  | inr more ↦ elim more [ | inl length ↦ cc | inr rest ↦ elim rest [ | inl mesh ↦ cc | inr none ↦ none ] ]
+  | inr more ↦ elim more [ inl length ↦ cc | inr rest ↦ elim rest [ inl mesh ↦ cc | inr none ↦ none ] ]
 ]
 no_words Audit kind may = elim may [
   | inl outside ↦ cc
-  | inr more ↦ elim more [ | inl length ↦ cc | inr rest ↦ elim rest [ | inl journal ↦ cc | inr none ↦ none ] ]
+  | inr more ↦ elim more [ inl length ↦ cc | inr rest ↦ elim rest [ inl journal ↦ cc | inr none ↦ none ] ]
 ]
 
 pub no_usage : {K : Type 0} (command : Command) (before after : Streams K) (r : Result Done Fault) (kind : UsageKind) → Holds command before after r → r ≡ Err (Usage kind) → ⊥

@@ -41,37 +41,26 @@ IsOutput command inputs text = (done : Done) × Does command inputs done text
 pub record Holds {K : Type 0} (command : Command) (before after : Streams K) (result : Result Done Fault) : Type 0 where
   -- known input has one answer, its first refusal or success, unless a read, a write or memory fails
   pub answered : Answers IsOutside (verdict_of command before.inputs) result
-
   -- if no read and no write failed, only want of memory gives another answer (a corollary of `answered` and `causes`)
   pub complete : ¬ (InputFailed before after) → ¬ (OutputFailed before after)
       → Answers IsMemory (verdict_of command before.inputs) result
-
   -- a success has written exactly its text
   pub written : IfOk result (λ done. WritesAll (Does command before.inputs done) before.written after.written)
-
   -- flushed it
   pub flushed : OnOk result (after.flushed ≡ true)
-
   -- and read all input
   pub read_to_end : OnOk result (ReadToEnd before.inputs.text after.inputs.text)
-
   -- a refusal is one that the command may return
   pub refusals : IfErr result (MayReturn command)
-
   -- has its cause
   pub causes : IfErr result (HasCause before after)
-
   -- comes before any further read
   pub reads : IfErr result (ReadsUpTo command before.inputs after.inputs)
-
   -- and leaves a prefix of such a text after a failed write or want of memory
   pub prefix : IfErr result (LeavesPrefix (IsOutput command before.inputs) before.written after.written)
-
   -- and otherwise the output as it was
   pub output_unchanged : IfErr result (λ fault. fault ≢ WriteFault → fault ≢ Memory → after.output ≡ before.output)
-
   -- (a command that takes its memory first leaves it so after want of memory too)
   pub memory : TakesMemoryFirst command → IfErr result (λ fault. fault ≡ Memory → after.output ≡ before.output)
-
   -- no count of failures falls, and a success changes none
   pub counts : CountsFailures before after result

@@ -61,7 +61,12 @@ fn legal_journals_are_counted(rt: HostRuntime) -> Result<(), Fail> {
     let last_taken = format!(in alloc; "{CROWDED}1 take 1 5 4")?;
     let cases = [
         ("a layout alone", "layout 1 1 1", "audited 0", "legal 0\n"),
-        ("pages after their dependencies", LOADED, "audited 6", "legal 6\n"),
+        (
+            "pages after their dependencies",
+            LOADED,
+            "audited 6",
+            "legal 6\n",
+        ),
         (
             "the least recently used page is evicted",
             last_taken.as_str(),
@@ -87,16 +92,8 @@ fn the_first_fault_is_reported(rt: HostRuntime) -> Result<(), Fail> {
     let line_8 = format!(in alloc; "{REPORT}0 pins 0")?;
     let cases = [
         ("no bytes", "", "journal line 1"),
-        (
-            "a leading zero",
-            "layout 1 1 1\n0 pin 01",
-            "journal line 2",
-        ),
-        (
-            "comments are lines",
-            line_8.as_str(),
-            "journal line 8",
-        ),
+        ("a leading zero", "layout 1 1 1\n0 pin 01", "journal line 2"),
+        ("comments are lines", line_8.as_str(), "journal line 8"),
         (
             "a wrong line after a wrong entry",
             "layout 2 1 2\n0 stop\n0 stop\nstop",
@@ -112,16 +109,8 @@ fn the_first_fault_is_reported(rt: HostRuntime) -> Result<(), Fail> {
             used_later.as_str(),
             "entry 15 not allowed",
         ),
-        (
-            "a pinned victim",
-            pinned.as_str(),
-            "entry 15 not allowed",
-        ),
-        (
-            "no victim",
-            no_victim.as_str(),
-            "entry 15 not allowed",
-        ),
+        ("a pinned victim", pinned.as_str(), "entry 15 not allowed"),
+        ("no victim", no_victim.as_str(), "entry 15 not allowed"),
         (
             "a frame that ended",
             "layout 2 1 2\n0 pin 0\n0 unpin 0\n0 pin 0\n",

@@ -12,6 +12,7 @@ mod commands;
 mod draw_command;
 mod draw_mesh;
 mod faults;
+mod program;
 #[cfg(test)]
 mod tests;
 mod tool;
@@ -19,4 +20,6 @@ mod write_output;
 
 pub use commands::{Command, DrawRequest};
 pub use faults::{Done, Fault, UsageKind};
+pub use obj_source::ObjWhy;
+pub use program::{call, exit_status};
 pub use tool::geode;
