@@ -16,9 +16,13 @@ use std::alloc::Global;
 /// and writes the picture of its triangles as rows of hexadecimal words. `audit` reads the text of a page
 /// pool's journal and writes `legal N` if each of its N entries was allowed after the entries before it.
 ///
-/// The promise, of which `Holds` has a field for each phrase:
+/// The promise, of which the record `Holds` in `specs/Headline.antt` has a field for each phrase:
 ///
-/// **PROMISE**
+/// **For input whose bytes are known, a command answers their first refusal or succeeds, unless a read, a
+/// write or memory fails; a success has written exactly its text, flushed it and read all input; a refusal
+/// is one that the command may return, has its cause, comes before any further read, and leaves a prefix of
+/// such a text after a failed write or want of memory, and otherwise the output as it was; no count of
+/// failures falls, and a success changes none.**
 pub fn geode<S: Source, K: Sink>(
     alloc: Global,
     words: &[&str],
