@@ -5,15 +5,15 @@ use geom_core::{Digest32, Nums, Words};
 pub struct FrameRecord {
     /// The frame's number, from 0.
     pub frame: u32,
-    /// How many entries the journal had when the frame narrowed its pins.
+    /// The number of the journal's entries up to the frame's last Pin, that entry included.
     pub at: u64,
-    /// The pages that the frame needs and that are resident, ascending.
+    /// The pages that were resident after these entries, ascending.
     pub resident: Nums,
-    /// The pages that the frame needs and that are not resident, ascending.
+    /// The pages that the frame needed and that were not resident then, ascending.
     pub missing: Nums,
-    /// How many nodes of the level-of-detail tree were visited.
+    /// The number of nodes of the tree of boxes that were reached.
     pub nodes: u32,
-    /// How many words of the picture are not 0: the pixels that some triangle covers.
+    /// The number of words of the picture that are not 0: the pixels that some triangle covers.
     pub lit: u32,
     /// The SHA-256 digest of the picture's words, in the order of their pixels, eight bytes each, the most
     /// significant byte first.

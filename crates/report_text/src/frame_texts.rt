@@ -15,6 +15,9 @@ use std::alloc::Global;
 /// Bytes of a word of a picture row in a text: 16 digits, and a space or a line feed.
 const WORD_BYTES: usize = 17;
 
+/// Bytes of `# ` at the beginning of a picture row's line.
+const MARK_BYTES: usize = 2;
+
 /// Returns the text of a frame: the line
 /// `# frame F at A resident L missing L nodes N lit K sha256 DIGEST`, the line `# cut L`, and if the frame is
 /// printed a line for each picture row, from the top down: `# `, then the row as in `picture_text`.
@@ -26,25 +29,11 @@ pub fn frame_text(alloc: Global, shown: &FrameRecord) -> Result<Vec<u8>, Memory>
     requires rows { IfSome shown.now.rows HasWholeRows }
     ensures { IfOk result (λ text. text.items ≡ frame_text_of shown.now) }
 {
-    let mut text = Vec::with_capacity(alloc, room_for_rows(&shown.rows))?;
+    let mut text = Vec::new(alloc);
     push_frame_line(&mut text, shown)?;
     push_cut_line(&mut text, shown)?;
     push_picture(&mut text, &shown.rows)?;
     Ok(text)
-}
-
-/// Returns how many bytes the lines of the picture rows have: 17 for each word, and 2 more for each row.
-fn room_for_rows(rows: &Option<PictureRows>) -> usize
-    requires rows { IfSome rows.now HasWholeRows }
-{
-    match rows {
-        Some(rows) => {
-            let words = rows.words.as_slice().len();
-            let marks = words / rows.width as usize * 2;
-            words.saturating_mul(WORD_BYTES).saturating_add(marks)
-        }
-        None => 0,
-    }
 }
 
 /// Appends the frame's first line.
@@ -96,7 +85,7 @@ fn push_picture(text: &mut Vec<u8>, rows: &Option<PictureRows>) -> Result<(), Me
     }
 }
 
-/// Appends a line for each picture row, from the top down.
+/// Appends a line for each picture row, from the top down. Room for all rows is taken once.
 fn push_rows(text: &mut Vec<u8>, rows: &PictureRows) -> Result<(), Memory>
     requires rows { HasWholeRows rows.now }
     ensures { OnOk result (text.new.items
@@ -104,6 +93,8 @@ fn push_rows(text: &mut Vec<u8>, rows: &PictureRows) -> Result<(), Memory>
 {
     let width = rows.width as usize;
     let words = rows.words.as_slice();
+    let marks = words.len() / width * MARK_BYTES;
+    text.reserve(words.len().saturating_mul(WORD_BYTES).saturating_add(marks))?;
     for row in 0..words.len() / width {
         text.extend_from_slice(b"# ")?;
         push_row(text, &words[row * width..(row + 1) * width])?;
