@@ -1,9 +1,10 @@
 -- The text of a picture, one word and one row further.
 use Rattle.std.proofs.Common.{◌≡◌, ℕ, ◌+◌, ◌-◌, ◌*◌, ◌/◌, ◌<◌, ◌≤◌, List, [], ◌∷◌, ◌++◌, zero, suc, length, take, drop, map, get_or, refl, sym, ◌∙◌, ap, arith, append_assoc}
-use Rattle.std.specs.Prelude.{flat_map}
+use Rattle.std.specs.Prelude.{codes, flat_map}
 use Rattle.std.specs.List.{join_with_byte, range_with_len}
 use Rattle.std.proofs.lemmas.List.{append-nil, length-map, length-take, map_more, map-id, flat_map_more}
 use Rattle.std.proofs.lemmas.List.FromFn.{map-range_with_len_more}
+use Rattle.report_text.specs.FrameText.{comment_line}
 use Rattle.report_text.specs.PictureText.{word_text, row_text, row_of, picture_text_of}
 
 -- the text of the rows above row n
@@ -88,3 +89,23 @@ row_put before mid after words width j above row put =
     ∙ ap (λ (n : ℕ). row_is (row_text (take n (drop (j * width) words)))) wide
     ∙ append_assoc (rows_above words width j) (row_text (row_of words width j)) (10 ∷ [])
     ∙ rows_above-more words width j
+
+-- the comment lines of the rows above row n
+abbrev pub comments_above : List ℕ → ℕ → ℕ → List ℕ
+comments_above words width n = flat_map comment_line (map (λ j. row_text (row_of words width j)) (range_with_len 0 n))
+
+-- a row put after `# `, below those above it
+pub comment_row_put : (before so_far marked mid after words : List ℕ) (width j : ℕ) →
+    so_far ≡ before ++ comments_above words width j → marked ≡ so_far ++ codes "# " →
+    mid ≡ marked ++ row_text (take ((j + 1) * width - j * width) (drop (j * width) words)) → after ≡ mid ++ 10 ∷ [] →
+    after ≡ before ++ comments_above words width (j + 1)
+comment_row_put before so_far marked mid after words width j above mark row put =
+    let text : ℕ → List ℕ = λ (i : ℕ). row_text (row_of words width i) in
+    let wide : (j + 1) * width - j * width ≡ width = omega arith in
+    put ∙ ap (λ (l : List ℕ). l ++ 10 ∷ [])
+    (row ∙ ap (λ (n : ℕ). marked ++ row_text (take n (drop (j * width) words))) wide
+    ∙ ap (λ (l : List ℕ). l ++ text j) (mark ∙ ap (λ (l : List ℕ). l ++ codes "# ") above))
+    ∙ append_assoc ((before ++ comments_above words width j) ++ codes "# ") (text j) (10 ∷ [])
+    ∙ append_assoc (before ++ comments_above words width j) (codes "# ") (text j ++ 10 ∷ [])
+    ∙ flat_map_more comment_line before (map text (range_with_len 0 j)) (text j)
+    ∙ ap (λ (l : List (List ℕ)). before ++ flat_map comment_line l) (sym (map-range_with_len_more text 0 j j (omega arith)))
