@@ -13,5 +13,6 @@
 #![tactic(auto)]
 
 mod keys;
+pub mod laws;
 mod states;
 mod vectors;

@@ -1,7 +1,10 @@
-/// A vector between points, or a normal, in grid steps or their squares.
+/// A vector between points in grid steps, or a normal in their squares.
 #[derive(Clone, Copy, Debug, PartialEq, Eq)]
 pub(crate) struct Vector {
+    /// The component along the x axis.
     pub x: i64,
+    /// The component along the y axis.
     pub y: i64,
+    /// The component along the z axis.
     pub z: i64,
 }
