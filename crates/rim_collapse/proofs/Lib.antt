@@ -1,3 +1,4 @@
 pub mod Determined
 pub mod Examples
 pub mod Following
+pub mod Products
