@@ -81,9 +81,9 @@ sums_step tris locked n state a b here next =
     let inside : OnRim (present state) a → ⊥ = λ on. both_ways (is_among locked a) (here.rim a on) free in
     record {
       rim = λ p on. here.rim p ((OnRim-collapsed a b p (present state) inside).0
-      (subst (λ l. OnRim l p) (present-after a b state) on));
+          (subst (λ l. OnRim l p) (present-after a b state) on));
       sums = λ u v. ap (λ l. edge_sum l u v) (present-after a b state) ∙
-      edge_sum-collapsed a b u v (present state) inside ∙ here.sums u v;
+          edge_sum-collapsed a b u v (present state) inside ∙ here.sums u v;
     }
   where
     both_ways : (x : Bool) → x ≡ true → x ≡ false → ⊥
@@ -201,12 +201,12 @@ sound_step tris locked n state a b here next =
     record {
       part = part-after a b tris state here.part;
       triangles = rw (present-after a b state) (IsGridTriangle-collapsed a b (present state)
-      (IsGridPoint-corner b (present state) target here.triangles) here.triangles);
+          (IsGridPoint-corner b (present state) target here.triangles) here.triangles);
       corners = λ p corner. elim (collapsed-corners a b p (present state)
-      (subst (λ l. IsCornerIn l p) (present-after a b state) corner)) [
-        | inl at ↦ here.corners p (subst (IsCornerIn (present state)) (sym at) target)
-        | inr there ↦ here.corners p there
-      ];
+          (subst (λ l. IsCornerIn l p) (present-after a b state) corner)) [
+            | inl at ↦ here.corners p (subst (IsCornerIn (present state)) (sym at) target)
+            | inr there ↦ here.corners p there
+          ];
     }
 
 sound_state : (tris : List Tagged) (locked : List Pt) (n : ℕ) (collapses : List (Pt × Pt)) (kept : List Kept) →
@@ -217,6 +217,16 @@ sound_state tris locked n collapses kept triangles lead =
       triangles = rw (present-begun tris) triangles;
       corners = λ p corner. subst (λ l. IsCornerIn l p) (present-begun tris) corner;
     }) lead
+
+pub state-triangles : (tris : List Tagged) (locked : List Pt) (n : ℕ) (collapses : List (Pt × Pt)) (kept : List Kept) →
+    All IsGridTriangle (tris_of tris) → Lead locked n collapses (begun tris) kept → All IsGridTriangle (present kept)
+state-triangles tris locked n collapses kept triangles lead =
+    (sound_state tris locked n collapses kept triangles lead).triangles
+
+pub state-length : (tris : List Tagged) (locked : List Pt) (n : ℕ) (collapses : List (Pt × Pt)) (kept : List Kept) →
+    All IsGridTriangle (tris_of tris) → Lead locked n collapses (begun tris) kept → length kept ≤ length tris
+state-length tris locked n collapses kept triangles lead =
+    part-length tris kept (sound_state tris locked n collapses kept triangles lead).part
 
 pub simplified-sound : (tris : List Tagged) (locked : List Pt) (kept : List Kept) →
     All IsGridTriangle (tris_of tris) → IsSimplified tris locked kept →

@@ -12,7 +12,16 @@
 //! sums. `geom_core` has points, triangles and collapses.
 #![tactic(auto)]
 
+mod bests;
+mod corners;
+mod facets;
 mod keys;
 pub mod laws;
+mod least;
+mod points;
+mod simplifying;
 mod states;
 mod vectors;
+
+pub use simplifying::{Simplified, simplify};
+pub use states::Kept;

@@ -23,7 +23,7 @@ returns-clause-dot c =
     rw (
       sum2-is p q c.wide_times.ensures.size c.wide_times-2.ensures.size,
       sum3-is (p +ℤ q) c.wide_times-3.result
-      (sum2-size p q c.wide_times.ensures.size c.wide_times-2.ensures.size) c.wide_times-3.ensures.size,
+          (sum2-size p q c.wide_times.ensures.size c.wide_times-2.ensures.size) c.wide_times-3.ensures.size,
     ) (same_sum p q c.wide_times-3.result (c.args.u.x *ℤ c.args.v.x) (c.args.u.y *ℤ c.args.v.y)
     (c.args.u.z *ℤ c.args.v.z)
     (passed-product (2 ^ 43) p c.args.u.x c.args.v.x normal-small c.requires.u.x c.requires.v.x
@@ -40,5 +40,5 @@ returns-clause-size c =
     rw (
       sum2-is p q c.wide_times.ensures.size c.wide_times-2.ensures.size,
       sum3-is (p +ℤ q) c.wide_times-3.result
-      (sum2-size p q c.wide_times.ensures.size c.wide_times-2.ensures.size) c.wide_times-3.ensures.size,
+          (sum2-size p q c.wide_times.ensures.size c.wide_times-2.ensures.size) c.wide_times-3.ensures.size,
     ) (sum3-size p q c.wide_times-3.result c.wide_times.ensures.size c.wide_times-2.ensures.size c.wide_times-3.ensures.size)
