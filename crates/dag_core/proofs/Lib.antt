@@ -1,0 +1,2 @@
+pub mod TwoSquares
+pub mod Examples

@@ -1,0 +1,6 @@
+pub mod Members
+pub mod Pages
+pub mod Ranges
+pub mod Rules
+pub mod Triangles
+pub mod TriangleRules
