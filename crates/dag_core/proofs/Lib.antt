@@ -1,2 +1,11 @@
 pub mod TwoSquares
 pub mod Examples
+pub mod RangeLaws
+pub mod MemberLaws
+pub mod PlaceLaws
+pub mod RuleLaws
+pub mod ListSteps
+pub mod TableLaws
+pub mod UpperLaws
+pub mod HalvingLaws
+pub mod CheckLaws

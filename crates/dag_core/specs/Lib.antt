@@ -1,3 +1,4 @@
+pub mod Internal
 pub mod Members
 pub mod Pages
 pub mod Ranges

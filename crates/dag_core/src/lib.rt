@@ -12,14 +12,21 @@
 //! `specs/Rules.antt` and `specs/TriangleRules.antt`.
 #![tactic(auto)]
 
+mod breaks;
+mod check;
 mod cluster_heads;
 mod counts;
 mod dags;
+mod faults;
 mod groups;
 mod heads;
+mod homes;
+mod marks;
+mod page_tables;
 
 pub use cluster_heads::{ClusterHead, ClusterHeads};
 pub use counts::Counts;
 pub use dags::{ClusterTris, Dag};
+pub use faults::CheckFault;
 pub use groups::{Group, Groups};
 pub use heads::Heads;

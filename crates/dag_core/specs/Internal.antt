@@ -1,0 +1,3 @@
+-- What only clauses of this crate's own functions name: tables, and the answers of searches.
+pub mod FirstPlaces
+pub mod Tables
