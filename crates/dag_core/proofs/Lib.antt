@@ -9,3 +9,4 @@ pub mod TableLaws
 pub mod UpperLaws
 pub mod HalvingLaws
 pub mod CheckLaws
+pub mod RangeTestLaws

@@ -23,6 +23,7 @@ mod heads;
 mod homes;
 mod marks;
 mod page_tables;
+mod ranges;
 
 pub use cluster_heads::{ClusterHead, ClusterHeads};
 pub use counts::Counts;
