@@ -1,5 +1,5 @@
 -- Worked examples of the definitions, computed by the checker: the two squares, and the two squares with one change.
-use Rattle.std.specs.Prelude.{◌≡◌, ℕ, List, [], ◌∷◌, ◌++◌, map, filter, refl}
+use Rattle.std.specs.Prelude.{◌≡◌, ℕ, true, false, None, Some, List, [], ◌∷◌, ◌++◌, map, filter, refl}
 use Rattle.std.specs.List.{range_with_len}
 use Rattle.geom_core.specs.declared.points.Pt.{Pt}
 use Rattle.geom_core.specs.declared.triangles.Tagged.{Tagged}
@@ -13,10 +13,12 @@ use Rattle.dag_core.specs.declared.heads.Heads.{Heads}
 use Rattle.dag_core.specs.declared.dags.Dag.{Dag}
 use Rattle.dag_core.specs.Members.{members, home, made_by}
 use Rattle.dag_core.specs.Pages.{clusters_on, tris_on, has_terminal_on, is_upper, uppers_of}
+use Rattle.dag_core.specs.Ranges.{is_count_in_range, is_error, is_group_box, is_page, are_members, is_group_or_none, is_cluster_size}
+use Rattle.dag_core.specs.declared.counts.Counts.{Counts}
 use Rattle.dag_core.specs.Rules.{members_before, breaks_members, breaks_maker, has_made, breaks_terminal, is_outgrown, breaks_bound, breaks_page, breaks}
 use Rattle.dag_core.specs.Triangles.{leaves, source_of, HasTris}
 use Rattle.dag_core.specs.TriangleRules.{have_same_sums, breaks_sums, breaks_source, is_near, is_near_source, breaks_corners, dag_breaks}
-use Rattle.dag_core.proofs.TwoSquares.{flat_point, sourced, corner_a, corner_b, corner_c, corner_d, middle, fine_square, coarse_square, two_squares_heads, two_squares}
+use Rattle.dag_core.proofs.TwoSquares.{flat_point, sourced, corner_a, corner_b, corner_c, corner_d, middle, fine_square, coarse_square, whole, left, right, made_of_two, leaf_of_four, two_squares_clusters, two_squares_heads, two_squares}
 
 abbrev heads_of : List Group → List ClusterHead → Heads
 heads_of groups clusters = record { groups = groups; clusters = clusters; pages = 3; roots = 1; sources = 8 }
@@ -61,6 +63,147 @@ uppers_of_each = refl
 pub two_squares_break_nothing : all_broken two_squares_heads ≡ nowhere ∷ nowhere ∷ nowhere ∷ nowhere ∷ nowhere ∷ []
 unfolding home tris_on has_terminal_on is_upper members_before breaks_members breaks_maker has_made breaks_terminal is_outgrown breaks_bound breaks_page is_under holds_box
 two_squares_break_nothing = refl
+
+-- ---- one change each
+
+-- the two squares with these groups
+abbrev grouped : Group → Group → Group → Heads
+grouped a b c = heads_of (a ∷ b ∷ c ∷ []) two_squares_clusters
+
+-- the two squares with these makers of clusters 0 and 1
+abbrev made_by_groups : ℕ → ℕ → Heads
+made_by_groups a b = heads_of (whole ∷ left ∷ right ∷ []) (made_of_two a ∷ made_of_two b ∷ leaf_of_four ∷ leaf_of_four ∷ [])
+
+-- rule 1: a group's members begin before those of the group before it end
+pub first_too_early : broken_at 1 6 (grouped whole (record left { first = 1 }) right) ≡ 1 ∷ []
+unfolding members_before breaks_members
+first_too_early = refl
+
+-- rule 1 at the number of groups: one member too many
+pub one_member_too_many : broken_at 1 6 (grouped whole left (record right { count = 2 })) ≡ 3 ∷ []
+unfolding members_before breaks_members
+one_member_too_many = refl
+
+-- rule 2: the home itself as the maker, and a group before it
+pub made_by_its_home : broken_at 2 6 (made_by_groups 0 2) ≡ 0 ∷ []
+unfolding home breaks_maker
+made_by_its_home = refl
+
+pub leaf_made_by_an_earlier_group : broken_at 2 6 (heads_of (whole ∷ left ∷ right ∷ [])
+      (made_of_two 1 ∷ made_of_two 2 ∷ record { made = Some 0; tris = 4 } ∷ leaf_of_four ∷ [])) ≡ 2 ∷ []
+unfolding home breaks_maker
+leaf_made_by_an_earlier_group = refl
+
+-- rule 3: a terminal group that made a cluster, and a group that isn't and made none
+pub terminal_group_made_one : broken_at 3 6 (grouped whole (record left { terminal = true }) right) ≡ 1 ∷ []
+unfolding has_made breaks_terminal
+terminal_group_made_one = refl
+
+pub group_made_none : broken_at 3 6 (made_by_groups 1 1) ≡ 2 ∷ []
+unfolding has_made breaks_terminal
+group_made_none = refl
+
+-- rule 4: the maker's box reaches out of the home's
+pub box_reaches_out : broken_at 4 6 (grouped whole (record left { cube = record { lo = corner_a 0; hi = flat_point 25 8 } }) right) ≡ 0 ∷ []
+unfolding home is_outgrown breaks_bound is_under holds_box
+box_reaches_out = refl
+
+-- a chain of three groups of one cluster each, on pages 0, 1 and 2, with these errors
+abbrev chain_of : ℕ → ℕ → ℕ → Heads
+chain_of a b c =
+    heads_of (record whole { error = a; count = 1 } ∷ record left { error = b; first = 1 } ∷ record left { error = c; page = 2; first = 2 } ∷ [])
+    (made_of_two 1 ∷ made_of_two 2 ∷ leaf_of_four ∷ [])
+
+-- rule 4: an error greater than the home's; an equal one is none, nor any error under a terminal home
+pub error_grows_downwards : broken_at 4 6 (chain_of 0 4 5) ≡ 1 ∷ []
+unfolding home is_outgrown breaks_bound is_under holds_box
+error_grows_downwards = refl
+
+pub equal_errors : broken_at 4 6 (chain_of 0 4 4) ≡ nowhere
+unfolding home is_outgrown breaks_bound is_under holds_box
+equal_errors = refl
+
+pub terminal_home_of_less_error : all_broken (chain_of 5 7 7) ≡ nowhere ∷ nowhere ∷ nowhere ∷ nowhere ∷ nowhere ∷ []
+unfolding home tris_on has_terminal_on is_upper members_before breaks_members breaks_maker has_made breaks_terminal is_outgrown breaks_bound breaks_page is_under holds_box
+terminal_home_of_less_error = refl
+
+-- rule 5: no triangle on page 1
+pub page_without_triangles : broken_at 5 6 (grouped whole (record left { page = 0 }) right) ≡ 1 ∷ []
+unfolding home tris_on has_terminal_on is_upper breaks_page
+page_without_triangles = refl
+
+-- rule 5: both sides of the most triangles
+abbrev one_page : ℕ → Heads
+one_page tris = record { groups = record whole { count = 1 } ∷ []; clusters = record { made = None; tris = tris } ∷ []; pages = 1; roots = 1; sources = 1 }
+
+pub page_of_1638 : broken_at 5 3 (one_page 1638) ≡ nowhere
+unfolding home tris_on has_terminal_on is_upper breaks_page
+page_of_1638 = refl
+
+pub page_of_1639 : broken_at 5 3 (one_page 1639) ≡ 0 ∷ []
+unfolding home tris_on has_terminal_on is_upper breaks_page
+page_of_1639 = refl
+
+-- rule 5: a terminal group on page 1; where page 1 is a root page it may be there, as may a group that isn't terminal
+pub terminal_group_on_page_1 : broken_at 5 6 (record two_squares_heads { groups = record whole { page = 1 } ∷ record left { page = 0 } ∷ right ∷ [] }) ≡ 0 ∷ 1 ∷ []
+unfolding home tris_on has_terminal_on is_upper breaks_page
+terminal_group_on_page_1 = refl
+
+pub two_root_pages : broken_at 5 6 (record two_squares_heads { roots = 2 }) ≡ nowhere
+unfolding home tris_on has_terminal_on is_upper breaks_page
+two_root_pages = refl
+
+-- rule 5: an upper above its page, one page up and two pages up
+pub upper_one_page_up : broken_at 5 6 (record two_squares_heads { groups = record whole { page = 1 } ∷ record left { page = 0 } ∷ right ∷ []; roots = 2 }) ≡ 0 ∷ []
+unfolding home tris_on has_terminal_on is_upper breaks_page
+upper_one_page_up = refl
+
+pub upper_two_pages_up : broken_at 5 6 (record two_squares_heads { groups = record whole { page = 2 } ∷ record left { page = 0 } ∷ record right { page = 1 } ∷ []; roots = 3 }) ≡ 0 ∷ 1 ∷ []
+unfolding home tris_on has_terminal_on is_upper breaks_page
+upper_two_pages_up = refl
+
+-- ---- ranges, both sides of each bound
+
+pub counts_of_groups : map (λ n. is_count_in_range (record { groups = n; clusters = 1; pages = 1; roots = 1; sources = 1 }) 0) (0 ∷ 1 ∷ 8388608 ∷ 8388609 ∷ []) ≡
+    false ∷ true ∷ true ∷ false ∷ []
+counts_of_groups = refl
+
+pub counts_of_roots : map (λ n. is_count_in_range (record { groups = 1; clusters = 1; pages = 3; roots = n; sources = 1 }) 3) (0 ∷ 1 ∷ 3 ∷ 4 ∷ []) ≡
+    false ∷ true ∷ true ∷ false ∷ []
+counts_of_roots = refl
+
+pub counts_of_sources : map (λ n. is_count_in_range (record { groups = 1; clusters = 1; pages = 1; roots = 1; sources = n }) 4) (0 ∷ 1 ∷ 1048576 ∷ 1048577 ∷ []) ≡
+    false ∷ true ∷ true ∷ false ∷ []
+counts_of_sources = refl
+
+pub errors : map is_error (0 ∷ 2147483647 ∷ 2147483648 ∷ []) ≡ true ∷ true ∷ false ∷ []
+errors = refl
+
+abbrev three_pages : Counts
+three_pages = record { groups = 3; clusters = 4; pages = 3; roots = 1; sources = 8 }
+
+pub page_numbers : map (is_page three_pages) (0 ∷ 2 ∷ 3 ∷ []) ≡ true ∷ true ∷ false ∷ []
+page_numbers = refl
+
+pub member_counts : map (are_members three_pages 4) (0 ∷ 1 ∷ 8 ∷ 9 ∷ []) ≡ false ∷ true ∷ true ∷ false ∷ []
+member_counts = refl
+
+pub first_members : map (λ first. are_members three_pages first 1) (0 ∷ 4 ∷ 5 ∷ []) ≡ true ∷ true ∷ false ∷ []
+first_members = refl
+
+pub makers : map (is_group_or_none three_pages) (None ∷ Some 0 ∷ Some 2 ∷ Some 3 ∷ []) ≡ true ∷ true ∷ true ∷ false ∷ []
+makers = refl
+
+pub cluster_sizes : map is_cluster_size (0 ∷ 1 ∷ 128 ∷ 129 ∷ []) ≡ false ∷ true ∷ true ∷ false ∷ []
+cluster_sizes = refl
+
+-- a box of one point, one at the end of the range, one beyond it, one whose low corner is above its high one
+pub boxes : map is_group_box (
+      record { lo = corner_a 0; hi = corner_a 0 } ∷ record { lo = corner_a 0; hi = flat_point 1048576 0 }
+      ∷ record { lo = corner_a 0; hi = flat_point 1048577 0 } ∷ record { lo = corner_b 0; hi = corner_a 0 } ∷ [])
+    ≡ true ∷ true ∷ false ∷ false ∷ []
+unfolding is_under
+boxes = refl
 
 -- ---- the rules of triangles
 

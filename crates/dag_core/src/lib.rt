@@ -3,10 +3,12 @@
 //! A cluster has at most `TRIANGLES_PER_CLUSTER` triangles. Clusters lie in groups. The triangles of a group are
 //! simplified together, with the group's rim locked, and the result is cut into new clusters: the group *made*
 //! them, and they are members of other groups, their *homes*. A leaf is a cluster that no group made; it has source
-//! triangles. So a group stands for a choice: its members, or the coarser clusters that it made from them.
-//! Groups that only the whole of them can replace each other along their rims, each with one error and one box,
-//! are those of Karis, Stubbe and Wihlidal, "A Deep Dive into Nanite Virtualized Geometry" (SIGGRAPH 2021 course
-//! notes); the numbers, boxes and pages are this repository's own.
+//! triangles. So a group offers a choice: its members, or the coarser clusters that it made of them. Both have the
+//! same rim, so each group can be chosen for itself.
+//!
+//! Clusters in groups with one error and one box each are those of Karis, Stubbe and Wihlidal, "A Deep Dive into
+//! Nanite Virtualized Geometry" (SIGGRAPH 2021 course notes); the numbers, boxes, rules and pages are this
+//! repository's own.
 //!
 //! `Heads` is the DAG without its triangles, `Dag` has them. The rules that make a DAG sound are in
 //! `specs/Rules.antt` and `specs/TriangleRules.antt`.
