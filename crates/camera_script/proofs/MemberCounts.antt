@@ -7,7 +7,8 @@ use Rattle.serde_json.specs.declared.value.Value.{Value}
 use Rattle.camera_script.specs.Members.{items_list, member_count}
 
 -- an object's members are counted by the entries of its map
-pub member_count_entries : (entries : List (String Global × Value)) → member_count (members_view entries) ≡ length entries
+pub member_count_entries : (entries : List (String Global × Value)) →
+    member_count (members_view entries) ≡ length entries
 member_count_entries [] = refl
 member_count_entries (entry ∷ rest) = omega (arith, member_count_entries rest)
 

@@ -1,5 +1,6 @@
 -- The JSON value of a text, as the library reads it.
-use Rattle.std.specs.Prelude.{◌≡◌, ◌⊎◌, ℕ, List, Bool, true, false, if◌then◌else◌, Option, None, Some, Result, Err, IsUtf8, refl}
+use Rattle.std.specs.Prelude.{◌≡◌, ◌⊎◌, ℕ, List, Bool, true, false, if◌then◌else◌, Option, None, Some, Result, Err}
+use Rattle.std.specs.Prelude.{IsUtf8, refl}
 use Rattle.std.proofs.Common.{ap, sym, ◌∙◌, inl, inr}
 use Rattle.std.specs.Str.{is_utf8}
 use Rattle.std.proofs.lemmas.Str.{IsUtf8-from_is_utf8, is_utf8-from_IsUtf8}
@@ -23,7 +24,8 @@ pub script_of-value : (text : List ℕ) (value : Data) (result : Result Script S
     read_text text ≡ Some value → AnswersOrMemory (script_in value) result → AnswersOrMemory (script_of text) result
 unfolding script_of value_of
 script_of-value text value result utf8 read (inl e) =
-    inl (e ∙ sym (ap (λ (b : Bool). script_of_value (if b then read_text text else None)) (is_utf8-from_IsUtf8 text utf8)
+    inl (e ∙ sym (ap (λ (b : Bool). script_of_value (if b then read_text text else None))
+    (is_utf8-from_IsUtf8 text utf8)
     ∙ ap script_of_value read))
 script_of-value text value result utf8 read (inr e) = inr e
 

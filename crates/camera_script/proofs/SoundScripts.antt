@@ -1,5 +1,7 @@
 -- What every script of a text has.
-use Rattle.std.specs.Prelude.{◌≡◌, ◌+◌, ◌≤◌, ◌&&◌, ◌⊎◌, ℕ, ℤ, pos, negsuc, List, [], ◌∷◌, ◌++◌, Bool, true, false, cond, if◌then◌else◌, nat_le, length, Option, None, Some, Result, Ok, Err, IfOk, IfSome, refl}
+use Rattle.std.specs.Prelude.{◌≡◌, ◌+◌, ◌≤◌, ◌&&◌, ◌⊎◌, ℕ, ℤ, pos, negsuc, List, [], ◌∷◌, ◌++◌, Bool, true, false}
+use Rattle.std.specs.Prelude.{cond, if◌then◌else◌, nat_le, length, Option, None, Some, Result, Ok, Err, IfOk}
+use Rattle.std.specs.Prelude.{IfSome, refl}
 use Rattle.std.proofs.Common.{arith, ap, sym, subst, ◌∙◌, inl, inr, length-append}
 use Rattle.geom_core.specs.Limits.{IsPicture, IsSide, is_side}
 use Rattle.geom_core.specs.declared.screens.Size.{Size}
@@ -7,7 +9,8 @@ use Rattle.serde_json.specs.Data.{Data}
 use Rattle.camera_script.specs.Internal.Answers.{AnswersOrMemory}
 use Rattle.camera_script.specs.IsScript.{IsScript, printed}
 use Rattle.camera_script.specs.Members.{◌>>=◌, numbers_in}
-use Rattle.camera_script.specs.Script.{after_shot, is_shot_count, prints_after, script_in, script_of, script_of_sections, script_of_shots}
+use Rattle.camera_script.specs.Script.{after_shot, is_shot_count, prints_after, script_in, script_of}
+use Rattle.camera_script.specs.Script.{script_of_sections, script_of_shots}
 use Rattle.camera_script.specs.Script.{script_of_size, script_of_value, sections_in, shot_at, shot_in, shots_from}
 use Rattle.camera_script.specs.Script.{side_from, size_from, size_in, value_of, within_prints}
 use Rattle.camera_script.specs.declared.faults.ScriptFault.{ScriptFault}
@@ -80,7 +83,8 @@ few_prints : (b : Bool) (prints : ℕ) → prints ≤ MAX_PRINTS → (b && nat_l
 few_prints true prints few e = grind arith
 few_prints false prints few e = few
 
-shot_if : (b : Bool) (fault : ScriptFault) (prints : ℕ) (shot : Shot) → (b ≡ false → prints_after prints shot ≤ MAX_PRINTS) →
+shot_if : (b : Bool) (fault : ScriptFault) (prints : ℕ) (shot : Shot) → (b ≡ false →
+    prints_after prints shot ≤ MAX_PRINTS) →
     IfOk (if b then Err fault else Ok shot) (λ s. prints_after prints s ≤ MAX_PRINTS)
 shot_if true fault prints shot h = tt
 shot_if false fault prints shot h = h refl

@@ -1,5 +1,6 @@
 -- The script that a text spells, or the first fault of the text.
-use Rattle.std.specs.Prelude.{ℕ, ◌+◌, ◌&&◌, ℤ, pos, negsuc, nat_le, Bool, if◌then◌else◌, List, [], ◌∷◌, ◌++◌, length, Option, None, Some, Result, Ok, Err, codes}
+use Rattle.std.specs.Prelude.{ℕ, ◌+◌, ◌&&◌, ℤ, pos, negsuc, nat_le, Bool, if◌then◌else◌, List, [], ◌∷◌, ◌++◌}
+use Rattle.std.specs.Prelude.{length, Option, None, Some, Result, Ok, Err, codes}
 use Rattle.std.specs.Str.{is_utf8}
 use Rattle.geom_core.specs.Limits.{is_side}
 use Rattle.geom_core.specs.declared.screens.Size.{Size}
@@ -11,7 +12,8 @@ use Rattle.camera_script.specs.Members.{◌>>=◌, has_members, items_in, number
 use Rattle.camera_script.specs.declared.faults.ScriptFault.{ScriptFault}
 use Rattle.camera_script.specs.declared.faults.ScriptFault.TheVariants.{Bad}
 use Rattle.camera_script.specs.declared.faults.ScriptWhy.{ScriptWhy}
-use Rattle.camera_script.specs.declared.faults.ScriptWhy.TheVariants.{Text, Shape, Size as BadSize, Count, Member, Camera, Prints}
+use Rattle.camera_script.specs.declared.faults.ScriptWhy.TheVariants.{Text, Shape, Size as BadSize, Count, Member}
+use Rattle.camera_script.specs.declared.faults.ScriptWhy.TheVariants.{Camera, Prints}
 use Rattle.camera_script.specs.declared.frames.FrameMembers.{FrameMembers}
 use Rattle.camera_script.specs.declared.scripts.Script.{Script}
 use Rattle.camera_script.specs.declared.scripts.Shot.{Shot}
@@ -74,7 +76,8 @@ unfoldable pub shot_at : ℕ → ℕ → Data → Result Shot ScriptFault
 shot_at frame prints value = within_prints frame prints (shot_in value)
 
 -- what comes after a shot; a fault is the last
-abbrev pub after_shot : Result Shot ScriptFault → (Shot → Result (List Shot) ScriptFault) → Result (List Shot) ScriptFault
+abbrev pub after_shot : Result Shot ScriptFault → (Shot → Result (List Shot) ScriptFault) →
+    Result (List Shot) ScriptFault
 after_shot (Err fault) next = Err fault
 after_shot (Ok shot) next = next shot
 

@@ -3,6 +3,7 @@ ghost use Rattle.std.specs.List.{join_with_byte, flat_map};
 ghost use Rattle.report_text.specs.FrameText.{comment_line, frame_fields, count_fields, cut_fields};
 ghost use Rattle.report_text.specs.FrameText.{row_texts, frame_text_of, HasWholeRows};
 ghost use Rattle.report_text.specs.Internal.Spaced.{spaced};
+ghost use Rattle.report_text.specs.PictureText.{row_text};
 
 use crate::frame_records::{FrameRecord, PictureRows};
 use crate::line_fields::{
@@ -96,10 +97,18 @@ fn push_rows(text: &mut Vec<u8>, rows: &PictureRows) -> Result<(), Memory>
     let marks = words.len() / width * MARK_BYTES;
     text.reserve(words.len().saturating_mul(WORD_BYTES).saturating_add(marks))?;
     for row in 0..words.len() / width {
-        text.extend_from_slice(b"# ")?;
-        push_row(text, &words[row * width..(row + 1) * width])?;
-        text.push(b'\n')?;
+        push_comment_row(text, &words[row * width..(row + 1) * width])?;
     }
+    Ok(())
+}
+
+/// Appends the line of one picture row.
+fn push_comment_row(text: &mut Vec<u8>, row: &[u64]) -> Result<(), Memory>
+    ensures { OnOk result (text.new.items ≡ text.old.items ++ comment_line (row_text row.now)) }
+{
+    text.extend_from_slice(b"# ")?;
+    push_row(text, row)?;
+    text.push(b'\n')?;
     Ok(())
 }
 

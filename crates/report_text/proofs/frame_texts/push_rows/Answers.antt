@@ -4,9 +4,9 @@ use Rattle.report_text.proofs.frame_texts.push_rows.Goals as goal
 
 pub loop-row-preserved : goal.loop-row-preserved
 loop-row-preserved c =
-    comment_row_put c.args.text.now.items c.loop-row.text.items c.extend_from_slice.new.self.items
-    c.push_row.new.text.items c.push.new.self.items c.as_slice-words.result.now c.args.rows.now.width c.loop-row.row
-    c.loop-row.invariant c.in_ok-extend_from_slice.ensures.items c.in_ok-push_row.ensures c.in_ok-push.ensures.items
+    comment_row_put c.args.text.now.items c.loop-row.text.items c.push_comment_row.new.text.items
+    c.as_slice-words.result.now c.args.rows.now.width c.loop-row.row c.loop-row.invariant
+    c.in_ok-push_comment_row.ensures
 
 pub returns : goal.returns
 returns c =
