@@ -90,7 +90,7 @@ unfolding home breaks_maker
 made_by_its_home = refl
 
 pub leaf_made_by_an_earlier_group : broken_at 2 6 (heads_of (whole ∷ left ∷ right ∷ [])
-      (made_of_two 1 ∷ made_of_two 2 ∷ record { made = Some 0; tris = 4 } ∷ leaf_of_four ∷ [])) ≡ 2 ∷ []
+    (made_of_two 1 ∷ made_of_two 2 ∷ record { made = Some 0; tris = 4 } ∷ leaf_of_four ∷ [])) ≡ 2 ∷ []
 unfolding home breaks_maker
 leaf_made_by_an_earlier_group = refl
 
@@ -199,8 +199,8 @@ cluster_sizes = refl
 
 -- a box of one point, one at the end of the range, one beyond it, one whose low corner is above its high one
 pub boxes : map is_group_box (
-      record { lo = corner_a 0; hi = corner_a 0 } ∷ record { lo = corner_a 0; hi = flat_point 1048576 0 }
-      ∷ record { lo = corner_a 0; hi = flat_point 1048577 0 } ∷ record { lo = corner_b 0; hi = corner_a 0 } ∷ [])
+    record { lo = corner_a 0; hi = corner_a 0 } ∷ record { lo = corner_a 0; hi = flat_point 1048576 0 }
+    ∷ record { lo = corner_a 0; hi = flat_point 1048577 0 } ∷ record { lo = corner_b 0; hi = corner_a 0 } ∷ [])
     ≡ true ∷ true ∷ false ∷ false ∷ []
 unfolding is_under
 boxes = refl

@@ -10,3 +10,5 @@ pub mod UpperLaws
 pub mod HalvingLaws
 pub mod CheckLaws
 pub mod RangeTestLaws
+pub mod TwoSquaresLaws
+pub mod SumLaws

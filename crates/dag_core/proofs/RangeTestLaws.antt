@@ -64,7 +64,7 @@ cluster_to : (counts : Counts) (cluster : ClusterHead) → IsClusterInRange coun
 unfolding is_cluster_in_range
 cluster_to counts cluster range = and_from (is_cluster_size cluster.tris) (is_group_or_none counts cluster.made) range.size range.maker
 
-all_from : {X : Type 0} (P : X → Type 0) (test : X → Bool) (xs : List X) → ((x : X) → test x ≡ true → P x) → list_all test xs ≡ true → All P xs
+pub all_from : {X : Type 0} (P : X → Type 0) (test : X → Bool) (xs : List X) → ((x : X) → test x ≡ true → P x) → list_all test xs ≡ true → All P xs
 all_from {X} P test [] each all = All-nil P
 all_from {X} P test (x ∷ xs) each all =
     let parts = and_parts (test x) (list_all test xs) all in

@@ -23,6 +23,7 @@ mod faults;
 mod groups;
 mod heads;
 mod homes;
+pub mod laws;
 mod marks;
 mod page_tables;
 mod ranges;

@@ -1,5 +1,8 @@
 ghost use Rattle.std.specs.Prelude.{◌≡◌, ◌≤◌, ◌+◌, IfOk};
 ghost use Rattle.dag_core.proofs.TwoSquares as squares;
+ghost use Rattle.dag_core.specs.Ranges.{IsInRange};
+ghost use Rattle.dag_core.specs.Rules.{Checked};
+ghost use Rattle.dag_core.specs.TriangleRules.{Sound};
 
 use dag_core::{ClusterHead, ClusterHeads, ClusterTris, Dag, Group, Groups, Heads};
 use geom_core::{Cube, Memory, Pt, Tagged, TaggedTris, Tri};
@@ -8,8 +11,25 @@ use std::alloc::Global;
 /// Returns the two squares.
 pub fn two_squares(alloc: Global) -> Result<Dag, Memory>
     ensures dag { IfOk result (λ dag. dag ≡ squares.two_squares) }
+    ensures sound { IfOk result Sound }
 {
-    let heads = two_squares_heads(alloc)?;
+    assembled_dag(alloc)
+}
+
+/// Returns the two squares without their triangles.
+pub fn two_squares_heads(alloc: Global) -> Result<Heads, Memory>
+    ensures heads { IfOk result (λ heads. heads ≡ squares.two_squares_heads) }
+    ensures range { IfOk result IsInRange }
+    ensures checked { IfOk result Checked }
+{
+    assembled_heads(alloc)
+}
+
+/// Returns the two squares, put together of heads and triangles.
+fn assembled_dag(alloc: Global) -> Result<Dag, Memory>
+    ensures dag { IfOk result (λ dag. dag ≡ squares.two_squares) }
+{
+    let heads = assembled_heads(alloc)?;
     let mut tris = Vec::new(alloc);
     tris.push(coarse_square(alloc, 0, 0)?)?;
     tris.push(coarse_square(alloc, 16, 4)?)?;
@@ -21,8 +41,8 @@ pub fn two_squares(alloc: Global) -> Result<Dag, Memory>
     })
 }
 
-/// Returns the two squares without their triangles.
-pub fn two_squares_heads(alloc: Global) -> Result<Heads, Memory>
+/// Returns the heads of the two squares, put together of groups and clusters.
+fn assembled_heads(alloc: Global) -> Result<Heads, Memory>
     ensures heads { IfOk result (λ heads. heads ≡ squares.two_squares_heads) }
 {
     let groups = vec![in alloc; whole(), left(), right()]?;
