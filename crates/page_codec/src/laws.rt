@@ -1,0 +1,44 @@
+//! Laws of the bytes of a page file, as functions without a body: each clause holds for all that it names.
+
+ghost use Rattle.std.specs.Prelude.{◌≡◌, ◌≤◌, ℕ, List, None, length};
+ghost use Rattle.dag_core.specs.declared.counts.Counts.{Counts};
+ghost use Rattle.dag_core.specs.declared.heads.Heads.{Heads};
+ghost use Rattle.dag_core.specs.Pages.{tris_on};
+ghost use Rattle.page_codec.specs.declared.pages.Page.{Page};
+ghost use Rattle.page_codec.specs.Breaks.{first_directory_break, first_page_break};
+ghost use Rattle.page_codec.specs.Fits.{FitsPage};
+ghost use Rattle.page_codec.specs.Numbers.{IsBytes};
+ghost use Rattle.page_codec.specs.Reading.{directory_of, page_of};
+ghost use Rattle.page_codec.specs.Spelling.{directory_length, page_bytes};
+
+use geom_core::limits::{MAX_TRIANGLES, PAGE_BYTES, PAGE_TRIANGLES};
+
+/// A page that fits its heads breaks no rule as it is spelt, and is what its spelling reads as.
+pub fn pages_read_back()
+    ensures no_break { (heads : Heads) (page : Page) → heads.sources ≤ MAX_TRIANGLES →
+        FitsPage heads page → first_page_break heads page.number (page_bytes page) ≡ None }
+    ensures page { (heads : Heads) (page : Page) → heads.sources ≤ MAX_TRIANGLES →
+        FitsPage heads page → page_of heads page.number (page_bytes page) ≡ page }
+{}
+
+/// Two pages of one number that fit the heads and have one spelling are one page. Two texts without a break that
+/// read as one page are one text.
+pub fn one_page_spelling()
+    ensures pages { (heads : Heads) (some other : Page) → heads.sources ≤ MAX_TRIANGLES →
+        FitsPage heads some → FitsPage heads other → some.number ≡ other.number →
+        page_bytes some ≡ page_bytes other → some ≡ other }
+    ensures texts { (heads : Heads) (p : ℕ) (some other : List ℕ) →
+        length some ≡ PAGE_BYTES → length other ≡ PAGE_BYTES → IsBytes some → IsBytes other →
+        tris_on heads p ≤ PAGE_TRIANGLES →
+        first_page_break heads p some ≡ None → first_page_break heads p other ≡ None →
+        page_of heads p some ≡ page_of heads p other → some ≡ other }
+{}
+
+/// Two texts without a break that read as one directory are one text.
+pub fn one_directory_spelling()
+    ensures texts { (counts : Counts) (some other : List ℕ) →
+        length some ≡ directory_length counts → length other ≡ directory_length counts →
+        IsBytes some → IsBytes other →
+        first_directory_break counts some ≡ None → first_directory_break counts other ≡ None →
+        directory_of counts some ≡ directory_of counts other → some ≡ other }
+{}
