@@ -18,7 +18,8 @@ use Rattle.page_codec.proofs.RecordLaws.{IsBytes-drop, spelt-records, nil-left, 
 use Rattle.page_codec.proofs.RecordLists.{none-first}
 use Rattle.page_codec.proofs.TriangleLaws.{Are32, listed, length-numbers, numbers-small}
 
-kept-unless : (b : Bool) (rule : ℕ) → unless b rule ≡ [] → b ≡ true
+-- a rule that isn't broken holds
+pub kept-unless : (b : Bool) (rule : ℕ) → unless b rule ≡ [] → b ≡ true
 kept-unless true rule none = refl
 kept-unless false rule none = cc
 

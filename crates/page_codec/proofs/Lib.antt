@@ -3,6 +3,8 @@ pub mod ClusterLists
 pub mod ClusterBytes
 mod Examples
 pub mod DirectoryLaws
+pub mod DirectorySpelt
+pub mod FitsLaws
 pub mod Homes
 pub mod LinkTables
 pub mod Links

@@ -24,7 +24,7 @@ pub numbers_of-spelt : (numbers : List ℕ) → All Is32 numbers → numbers_of 
 unfolding numbers_bytes numbers_of
 numbers_of-spelt numbers all =
     ap (records (little_number 4) 4 (length numbers)) (sym (append-nil (flat_map number_bytes numbers)))
-    ∙ records-spelt (little_number 4) number_bytes 4 Is32 (λ n. refl)
+    ∙ records-spelt (little_number 4) number_bytes 4 Is32 (λ n small. refl)
     (λ n small. ap (little_number 4) (sym (append-nil (number_bytes n))) ∙ little_number-reads_back 4 n [] small) numbers [] all
 
 number-same : (b : List ℕ) → length b ≡ 4 → little_number 4 b ≡ from_le_bytes w32 b

@@ -68,7 +68,7 @@ page_breaks-spelt sources n zeros tris most count sourced =
     let bytes = flat_map triangle_bytes tris ++ replicate zeros 0 in
     let rules = λ (b : List ℕ). triangle_rules sources (triangle_of b) in
     let kept : breaks_in rules 40 0 n bytes ≡ [] =
-    rw count (breaks_in-spelt triangle_bytes 40 rules (IsSourcedTriangle sources) length-triangle_bytes (λ t is. triangle_rules-spelt sources t most is) tris 0 (replicate zeros 0) sourced) in
+    rw count (breaks_in-spelt triangle_bytes 40 rules (IsSourcedTriangle sources) (λ t is. length-triangle_bytes t) (λ t is. triangle_rules-spelt sources t most is) tris 0 (replicate zeros 0) sourced) in
     let tail : drop (40 * n) bytes ≡ replicate zeros 0 = drop_at (flat_map triangle_bytes tris) (replicate zeros 0) (40 * n) (omega (arith, length-triangles tris)) in
     rw (kept, tail) (zeros-kept (40 * n) zeros)
 

@@ -20,12 +20,12 @@ pub IsBytes-drop : (n : ℕ) (bytes : List ℕ) → IsBytes bytes → IsBytes (d
 IsBytes-drop n bytes are = λ i. rw (get_or-drop n bytes i 0) (are (n + i))
 
 -- what is spelt reads back, whatever follows it
-pub records-spelt : {X : Type 0} (read : List ℕ → X) (spell : X → List ℕ) (size : ℕ) (P : X → Type 0) → ((x : X) → length (spell x) ≡ size) → ((x : X) → P x → read (spell x) ≡ x)
+pub records-spelt : {X : Type 0} (read : List ℕ → X) (spell : X → List ℕ) (size : ℕ) (P : X → Type 0) → ((x : X) → P x → length (spell x) ≡ size) → ((x : X) → P x → read (spell x) ≡ x)
     → (xs : List X) (rest : List ℕ) → All P xs → records read size (length xs) (flat_map spell xs ++ rest) ≡ xs
 records-spelt read spell size P len back [] rest all = refl
 records-spelt read spell size P len back (x ∷ xs) rest all =
     let whole = append_assoc (spell x) (flat_map spell xs) rest in
-    rw (whole, take_at (spell x) (flat_map spell xs ++ rest) size (len x), drop_at (spell x) (flat_map spell xs ++ rest) size (len x), back x (All-head P x xs all))
+    rw (whole, take_at (spell x) (flat_map spell xs ++ rest) size (len x (All-head P x xs all)), drop_at (spell x) (flat_map spell xs ++ rest) size (len x (All-head P x xs all)), back x (All-head P x xs all))
     (ap (λ ys. x ∷ ys) (records-spelt read spell size P len back xs rest (All-tail P x xs all)))
 
 -- no break of two lists: none of each
@@ -37,7 +37,7 @@ pub nil-right : {X : Type 0} (xs ys : List X) → xs ++ ys ≡ [] → ys ≡ []
 nil-right [] ys none = none
 nil-right (x ∷ xs) ys none = cc
 
-nil-broken : (offset : ℕ) (rules : List ℕ) → broken_at offset rules ≡ [] → rules ≡ []
+pub nil-broken : (offset : ℕ) (rules : List ℕ) → broken_at offset rules ≡ [] → rules ≡ []
 nil-broken offset [] none = refl
 nil-broken offset (r ∷ rules) none = cc
 
@@ -56,9 +56,9 @@ spelt-records read spell size rules again (suc n) offset bytes room are none =
     rw (sum, take-add size (size * n) bytes, head, rest) refl
 
 -- what is spelt by records that keep the rules has no break
-pub breaks_in-spelt : {X : Type 0} (spell : X → List ℕ) (size : ℕ) (rules : List ℕ → List ℕ) (P : X → Type 0) → ((x : X) → length (spell x) ≡ size) → ((x : X) → P x → rules (spell x) ≡ [])
+pub breaks_in-spelt : {X : Type 0} (spell : X → List ℕ) (size : ℕ) (rules : List ℕ → List ℕ) (P : X → Type 0) → ((x : X) → P x → length (spell x) ≡ size) → ((x : X) → P x → rules (spell x) ≡ [])
     → (xs : List X) (offset : ℕ) (rest : List ℕ) → All P xs → breaks_in rules size offset (length xs) (flat_map spell xs ++ rest) ≡ []
 breaks_in-spelt spell size rules P len keep [] offset rest all = refl
 breaks_in-spelt spell size rules P len keep (x ∷ xs) offset rest all =
-    rw (append_assoc (spell x) (flat_map spell xs) rest, take_at (spell x) (flat_map spell xs ++ rest) size (len x), drop_at (spell x) (flat_map spell xs ++ rest) size (len x), keep x (All-head P x xs all))
+    rw (append_assoc (spell x) (flat_map spell xs) rest, take_at (spell x) (flat_map spell xs ++ rest) size (len x (All-head P x xs all)), drop_at (spell x) (flat_map spell xs ++ rest) size (len x (All-head P x xs all)), keep x (All-head P x xs all))
     (breaks_in-spelt spell size rules P len keep xs (offset + size) rest (All-tail P x xs all))

@@ -24,11 +24,11 @@ use Rattle.page_codec.proofs.ClusterBytes.{length-triangle_bytes, length-cluster
 use Rattle.page_codec.proofs.NumberLaws.{Is32, numbers_of-spelt}
 use Rattle.page_codec.proofs.RecordLaws.{records-spelt}
 
-and-left : (a b : Bool) → a && b ≡ true → a ≡ true
+pub and-left : (a b : Bool) → a && b ≡ true → a ≡ true
 and-left true b both = refl
 and-left false b both = both
 
-and-right : (a b : Bool) → a && b ≡ true → b ≡ true
+pub and-right : (a b : Bool) → a && b ≡ true → b ≡ true
 and-right true b both = both
 and-right false b both = cc
 
@@ -36,11 +36,11 @@ coordinate-abs : (z : ℤ) → is_grid_coordinate z ≡ true → unsigned_abs z 
 coordinate-abs z grid = grind (arith, nat_tests)
 
 -- a coordinate of a mesh is a number of 32 bits, and reads back
-coordinate-fits : (z : ℤ) → is_grid_coordinate z ≡ true → coordinate_number z < 4294967296
+pub coordinate-fits : (z : ℤ) → is_grid_coordinate z ≡ true → coordinate_number z < 4294967296
 coordinate-fits (pos n) grid = let most = coordinate-abs (pos n) grid in omega (arith, most)
 coordinate-fits (negsuc n) grid = omega arith
 
-coordinate-back : (z : ℤ) → is_grid_coordinate z ≡ true → coordinate_from (coordinate_number z) ≡ z
+pub coordinate-back : (z : ℤ) → is_grid_coordinate z ≡ true → coordinate_from (coordinate_number z) ≡ z
 coordinate-back z grid = to_z-of_z w32 z (fits_signed_from_abs w32 z (omega (arith, coordinate-abs z grid)))
 
 -- nine coordinates of a mesh
@@ -144,6 +144,6 @@ clusters_of-spelt heads (cluster ∷ clusters) rest most counts sourced =
     let whole = append_assoc (cluster_bytes cluster.tris) (clusters_bytes clusters) rest in
     let size : length (cluster_bytes cluster.tris) ≡ 40 * length cluster.tris = length-cluster_bytes cluster.tris in
     let tris : records triangle_of 40 (length cluster.tris) (cluster_bytes cluster.tris ++ more) ≡ cluster.tris =
-    records-spelt triangle_of triangle_bytes 40 (IsSourcedTriangle heads.sources) length-triangle_bytes (λ t good. triangle_of-spelt heads.sources t most good) cluster.tris more is in
+    records-spelt triangle_of triangle_bytes 40 (IsSourcedTriangle heads.sources) (λ t good. length-triangle_bytes t) (λ t good. triangle_of-spelt heads.sources t most good) cluster.tris more is in
     rw (whole, ← count, tris, drop_at (cluster_bytes cluster.tris) more (40 * length cluster.tris) size)
     (ap (λ cs. cluster ∷ cs) (clusters_of-spelt heads clusters rest most (All-tail (λ cluster. length cluster.tris ≡ (cluster_at heads cluster.number).tris) cluster clusters counts) (All-tail (λ cluster. All (IsSourcedTriangle heads.sources) cluster.tris) cluster clusters sourced)))

@@ -4,6 +4,7 @@ ghost use Rattle.dag_core.specs.Pages.{clusters_on};
 ghost use Rattle.dag_core.specs.Ranges.{IsInRange};
 ghost use Rattle.dag_core.specs.Rules.{Checked};
 ghost use Rattle.page_codec.specs.Breaks.{first_page_break, Refuses};
+ghost use Rattle.page_codec.specs.Fits.{FitsPage};
 ghost use Rattle.page_codec.specs.PageLinks.{IsIndexOf};
 ghost use Rattle.page_codec.specs.Reading.{clusters_of, page_of};
 ghost use Rattle.page_codec.specs.Spelling.{page_bytes};
@@ -61,6 +62,7 @@ fn decode(
     requires index { IfSome index (λ links. IsIndexOf heads.now links.now) }
     ensures page { IfOk result (λ found. found ≡ page_of heads.now page bytes.now) }
     ensures spelling { IfOk result (λ found. page_bytes found ≡ bytes.now) }
+    ensures fits { IfOk result (FitsPage heads.now) }
     ensures no_break { OnOk result (first_page_break heads.now page bytes.now ≡ None) }
     ensures bad { IfErr result (Refuses (first_page_break heads.now page bytes.now)) }
 {
@@ -89,6 +91,7 @@ pub fn decode_page(alloc: Global, bytes: &[u8], heads: &Heads, page: u32) -> Res
     requires page_range { page < heads.now.pages }
     ensures page { IfOk result (λ found. found ≡ page_of heads.now page bytes.now) }
     ensures spelling { IfOk result (λ found. page_bytes found ≡ bytes.now) }
+    ensures fits { IfOk result (FitsPage heads.now) }
     ensures no_break { OnOk result (first_page_break heads.now page bytes.now ≡ None) }
     ensures bad { IfErr result (Refuses (first_page_break heads.now page bytes.now)) }
 {
@@ -110,6 +113,7 @@ pub fn decode_page_by(
     requires index { IsIndexOf heads.now index.now }
     ensures page { IfOk result (λ found. found ≡ page_of heads.now page bytes.now) }
     ensures spelling { IfOk result (λ found. page_bytes found ≡ bytes.now) }
+    ensures fits { IfOk result (FitsPage heads.now) }
     ensures no_break { OnOk result (first_page_break heads.now page bytes.now ≡ None) }
     ensures bad { IfErr result (Refuses (first_page_break heads.now page bytes.now)) }
 {

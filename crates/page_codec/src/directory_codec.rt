@@ -1,6 +1,7 @@
 ghost use Rattle.std.specs.Prelude.{◌≡◌, IfErr, IfOk, None, OnOk, length};
-ghost use Rattle.dag_core.specs.Ranges.{AreCountsInRange};
+ghost use Rattle.dag_core.specs.Ranges.{AreCountsInRange, counts_of};
 ghost use Rattle.page_codec.specs.Breaks.{Refuses, first_directory_break};
+ghost use Rattle.page_codec.specs.Fits.{FitsDirectory};
 ghost use Rattle.page_codec.specs.Reading.{digests_of, directory_of, heads_of};
 ghost use Rattle.page_codec.specs.Spelling.{directory_bytes, directory_length};
 
@@ -63,6 +64,8 @@ pub fn decode_directory(alloc: Global, bytes: &[u8], counts: &Counts) -> Result<
     requires length { length bytes.now ≡ directory_length counts.now }
     ensures directory { IfOk result (λ found. found ≡ directory_of counts.now bytes.now) }
     ensures spelling { IfOk result (λ found. directory_bytes found ≡ bytes.now) }
+    ensures counts { IfOk result (λ found. counts_of found.heads ≡ counts.now) }
+    ensures fits { IfOk result FitsDirectory }
     ensures no_break { OnOk result (first_directory_break counts.now bytes.now ≡ None) }
     ensures bad { IfErr result (Refuses (first_directory_break counts.now bytes.now)) }
 {

@@ -4,12 +4,14 @@ ghost use Rattle.std.specs.Prelude.{◌≡◌, ◌≤◌, ℕ, List, None, lengt
 ghost use Rattle.dag_core.specs.declared.counts.Counts.{Counts};
 ghost use Rattle.dag_core.specs.declared.heads.Heads.{Heads};
 ghost use Rattle.dag_core.specs.Pages.{tris_on};
+ghost use Rattle.dag_core.specs.Ranges.{counts_of};
+ghost use Rattle.page_codec.specs.declared.directories.Directory.{Directory};
 ghost use Rattle.page_codec.specs.declared.pages.Page.{Page};
 ghost use Rattle.page_codec.specs.Breaks.{first_directory_break, first_page_break};
-ghost use Rattle.page_codec.specs.Fits.{FitsPage};
+ghost use Rattle.page_codec.specs.Fits.{FitsDirectory, FitsPage};
 ghost use Rattle.page_codec.specs.Numbers.{IsBytes};
 ghost use Rattle.page_codec.specs.Reading.{directory_of, page_of};
-ghost use Rattle.page_codec.specs.Spelling.{directory_length, page_bytes};
+ghost use Rattle.page_codec.specs.Spelling.{directory_bytes, directory_length, page_bytes};
 
 use geom_core::limits::{MAX_TRIANGLES, PAGE_BYTES, PAGE_TRIANGLES};
 
@@ -34,8 +36,20 @@ pub fn one_page_spelling()
         page_of heads p some ≡ page_of heads p other → some ≡ other }
 {}
 
-/// Two texts without a break that read as one directory are one text.
+/// A directory that fits breaks no rule as it is spelt, and is what its spelling reads as.
+pub fn directories_read_back()
+    ensures no_break { (directory : Directory) → FitsDirectory directory →
+        first_directory_break (counts_of directory.heads) (directory_bytes directory) ≡ None }
+    ensures directory { (directory : Directory) → FitsDirectory directory →
+        directory_of (counts_of directory.heads) (directory_bytes directory) ≡ directory }
+{}
+
+/// Two directories of the same counts that fit and have one spelling are one directory. Two texts without a break
+/// that read as one directory are one text.
 pub fn one_directory_spelling()
+    ensures directories { (some other : Directory) → FitsDirectory some → FitsDirectory other →
+        counts_of some.heads ≡ counts_of other.heads →
+        directory_bytes some ≡ directory_bytes other → some ≡ other }
     ensures texts { (counts : Counts) (some other : List ℕ) →
         length some ≡ directory_length counts → length other ≡ directory_length counts →
         IsBytes some → IsBytes other →

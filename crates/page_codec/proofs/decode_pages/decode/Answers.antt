@@ -5,8 +5,10 @@ use Rattle.dag_core.specs.Pages.{clusters_on, tris_on}
 use Rattle.page_codec.specs.declared.pages.PageCluster.{PageCluster}
 use Rattle.page_codec.specs.declared.pages.Page.{Page}
 use Rattle.page_codec.specs.Breaks.{first_of, page_breaks}
+use Rattle.page_codec.specs.Fits.{FitsPage}
 use Rattle.page_codec.specs.Reading.{clusters_of, page_of}
 use Rattle.page_codec.specs.Spelling.{page_bytes}
+use Rattle.page_codec.proofs.FitsLaws.{FitsPage-read}
 use Rattle.page_codec.proofs.PageLaws.{page_bytes-read}
 use Rattle.page_codec.proofs.PageRules.{clusters_on-below, tris_on-le}
 use Rattle.page_codec.proofs.decode_pages.decode.Goals as goal
@@ -79,3 +81,15 @@ returns-clause-spelling c =
     let same = ap made (c.of-clusters.ensures ∙ c.in_ok-items-in-None.ensures.clusters
     ∙ ap (λ cs. clusters_of heads cs c.args.bytes.now) (c.deref-in-None.ensures.value ∙ c.in_ok-numbers.ensures.clusters)) in
     ap page_bytes same ∙ page_bytes-read heads c.args.page c.args.bytes.now c.requires.length (λ i. omega (arith, c.type_inv.bytes i)) (tris_on-le heads c.requires.rules c.args.page c.requires.page_range) none
+
+pub returns-clause-fits : goal.returns-clause-fits
+unfolding tris_on page_of
+returns-clause-fits c =
+    let heads = c.args.heads.now in
+    let count = c.count_tris-count.ensures.count ∙ ap (sum_by (λ n. (cluster_at heads n).tris)) (c.deref.ensures.value ∙ c.in_ok-numbers.ensures.clusters) in
+    let none = sym (c.in-None.ensures.first ∙ ap (λ n. first_of (page_breaks heads.sources n c.args.bytes.now)) count) in
+    let made : List PageCluster → Page = λ cs. record { number = c.args.page; clusters = cs } in
+    let same = ap made (c.of-clusters.ensures ∙ c.in_ok-items-in-None.ensures.clusters
+    ∙ ap (λ cs. clusters_of heads cs c.args.bytes.now) (c.deref-in-None.ensures.value ∙ c.in_ok-numbers.ensures.clusters)) in
+    let P : Page → Type 0 = λ found. FitsPage heads found in
+    subst P (sym same) (FitsPage-read heads c.args.page c.args.bytes.now none)
