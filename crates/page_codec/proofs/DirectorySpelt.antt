@@ -176,11 +176,11 @@ length-head_bytes : (head : ClusterHead) → length (head_bytes head) ≡ 8
 unfolding head_numbers
 length-head_bytes head = length-numbers_bytes (head_numbers head)
 
-length-groups : (groups : List Group) → length (flat_map group_bytes groups) ≡ 44 * length groups
+pub length-groups : (groups : List Group) → length (flat_map group_bytes groups) ≡ 44 * length groups
 length-groups [] = refl
 length-groups (group ∷ groups) = omega (arith, length-append (group_bytes group) (flat_map group_bytes groups), length-group_bytes group, length-groups groups)
 
-length-heads : (heads : List ClusterHead) → length (flat_map head_bytes heads) ≡ 8 * length heads
+pub length-heads : (heads : List ClusterHead) → length (flat_map head_bytes heads) ≡ 8 * length heads
 length-heads [] = refl
 length-heads (head ∷ heads) = omega (arith, length-append (head_bytes head) (flat_map head_bytes heads), length-head_bytes head, length-heads heads)
 

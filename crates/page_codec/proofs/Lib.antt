@@ -4,6 +4,7 @@ pub mod ClusterBytes
 mod Examples
 pub mod DirectoryLaws
 pub mod DirectorySpelt
+pub mod FileLaws
 pub mod FitsLaws
 pub mod Homes
 pub mod LinkTables
