@@ -1,25 +1,25 @@
 -- The least legal collapse of a point: what it depends on, and how it is found.
-use Rattle.std.proofs.Common.{◌≡◌, ◌≢◌, ◌⊎◌, inl, inr, ℕ, ◌+◌, ◌<◌, ◌≤◌, Bool, true, false, not, ◌&&◌, ◌||◌, cond, List, [], ◌∷◌, map, filter, take, length, get_or, All, Contains, IsTrue, Ordering, Option, Some, None, sum_by, refl, sym, ap, ◌∙◌, subst, arith}
+use Rattle.std.proofs.Common.{◌≡◌, ◌⊎◌, inl, inr, ℕ, ◌+◌, ◌<◌, Bool, true, false, not, ◌||◌, List, [], ◌∷◌, map, take, length, get_or, All, Ordering, Option, Some, None, sum_by, refl, sym, ap, ◌∙◌}
 use Rattle.std.specs.List.{list_all, list_any}
-use Rattle.std.specs.Ordering.{is_lt, ordering_reverse}
+use Rattle.std.specs.Ordering.{is_lt}
 use Rattle.std.specs.declared.cmp.Ordering.TheVariants.{Less, Equal, Greater}
-use Rattle.std.proofs.lemmas.Bool.{and_parts, and_from, cases_Bool, or_cases, or_left, or_right}
+use Rattle.std.proofs.lemmas.Bool.{and_parts, cases_Bool, or_cases, or_left, or_right}
 use Rattle.std.proofs.lemmas.Cmp.{tied_itself}
 use Rattle.std.proofs.lemmas.List.Elements.{All-head, All-tail, All-contains}
-use Rattle.std.proofs.lemmas.List.Folds.{Any-from_list_any, list_all-map, list_any_at, list_any_more}
+use Rattle.std.proofs.lemmas.List.Folds.{Any-from_list_any, list_all-map, list_any_more}
 use Rattle.std.proofs.lemmas.List.Sums.{sum_by-cons}
 use Rattle.geom_core.specs.declared.points.Pt.{Pt}
 use Rattle.geom_core.specs.declared.triangles.Tri.{Tri}
 use Rattle.geom_core.specs.Corners.{has_corner}
 use Rattle.geom_core.specs.EdgeSum.{same_point}
-use Rattle.geom_core.specs.Limits.{IsGridPoint, IsGridTriangle}
+use Rattle.geom_core.specs.Limits.{IsGridPoint}
 use Rattle.geom_core.proofs.CollapseCorners.{IsGridTriangle-corner}
 use Rattle.geom_core.proofs.PointLaws.{same_point-from}
 use Rattle.rim_collapse.specs.declared.facets.Facet.{Facet}
 use Rattle.rim_collapse.specs.declared.keys.Key.{Key}
 use Rattle.rim_collapse.specs.Cost.{around, cost, key_cmp, key_of, plane_cost}
 use Rattle.rim_collapse.specs.Legal.{has_both, has_edge, is_among, is_legal, is_legal_collapse, keeps_facing}
-use Rattle.rim_collapse.specs.Normals.{dot, minus, normal}
+use Rattle.rim_collapse.specs.Normals.{minus}
 use Rattle.rim_collapse.specs.Internal.Bests.{IsBestAt, IsBestOf, beats, is_open}
 use Rattle.rim_collapse.specs.Internal.Facets.{IsFacet, facet_cost, facet_keeps, facet_of, tris_in}
 use Rattle.rim_collapse.proofs.Determined.{key_cmp-total}

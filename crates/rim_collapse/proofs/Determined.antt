@@ -1,5 +1,5 @@
 -- A list has at most one least legal collapse, and is simplified to at most one state.
-use Rattle.std.proofs.Common.{◌≡◌, ◌⊎◌, inl, inr, ℕ, ◌*◌, ◌<◌, ◌≤◌, Bool, true, false, List, [], ◌∷◌, length, Ordering, refl, sym, ap, ◌∙◌, subst, arith}
+use Rattle.std.proofs.Common.{◌≡◌, inl, inr, ℕ, false, List, [], ◌∷◌, length, Ordering, refl, sym, ap, ◌∙◌, subst, arith}
 use Rattle.std.proofs.lemmas.Cmp.{nat_cmp_total, on_total, then_total}
 use Rattle.std.specs.Cmp.{IsTotalOrder}
 use Rattle.std.specs.Ordering.{is_eq, is_lt, ordering_reverse, ordering_then}
@@ -11,7 +11,7 @@ use Rattle.geom_core.specs.Order.{point_cmp}
 use Rattle.geom_core.proofs.PointLaws.{point_cmp-total, same_point-from, same_point-is}
 use Rattle.rim_collapse.specs.declared.keys.Key.{Key}
 use Rattle.rim_collapse.specs.declared.states.Kept.{Kept}
-use Rattle.rim_collapse.specs.Cost.{goes_before, key_cmp, key_of}
+use Rattle.rim_collapse.specs.Cost.{key_cmp, key_of}
 use Rattle.rim_collapse.specs.Least.{IsLeast}
 use Rattle.rim_collapse.specs.Simplified.{IsEnd, IsNext, IsSimplified, Lead}
 use Rattle.rim_collapse.specs.States.{after, begun, present}

@@ -1,5 +1,5 @@
 -- Worked examples of the rule, computed by the checker.
-use Rattle.std.specs.Prelude.{◌≡◌, Bool, true, false, not, ◌&&◌, ℕ, ℤ, pos, negsuc, List, [], ◌∷◌, map, filter, flat_map, refl}
+use Rattle.std.specs.Prelude.{◌≡◌, false, not, ℕ, ℤ, pos, negsuc, List, [], ◌∷◌, map, filter, flat_map, refl}
 use Rattle.std.specs.List.{list_any}
 use Rattle.geom_core.specs.declared.points.Pt.{Pt}
 use Rattle.geom_core.specs.declared.triangles.Tri.{Tri}
@@ -10,7 +10,6 @@ use Rattle.geom_core.specs.Distance.{distance}
 use Rattle.geom_core.specs.EdgeSum.{same_point}
 use Rattle.geom_core.specs.Limits.{has_distinct_corners}
 use Rattle.geom_core.specs.Shift.{shift_of}
-use Rattle.rim_collapse.specs.declared.states.Kept.{Kept}
 use Rattle.rim_collapse.specs.Cost.{cost, goes_before, key_of}
 use Rattle.rim_collapse.specs.Legal.{has_edge, is_legal, is_legal_collapse, keeps_facing}
 use Rattle.rim_collapse.specs.Moved.{moved_of}

@@ -1,5 +1,5 @@
 -- What holds of a list and is kept by each collapse holds of what it is simplified to.
-use Rattle.std.proofs.Common.{◌≡◌, ◌⊎◌, ◌≤◌, ◌+◌, inl, inr, ℕ, Bool, true, false, not, ◌&&◌, List, [], ◌∷◌, map, filter, length, max, All, IsTrue, refl, sym, ap, ◌∙◌, subst, arith}
+use Rattle.std.proofs.Common.{◌≡◌, ◌⊎◌, ◌≤◌, inl, inr, ℕ, Bool, true, false, not, ◌&&◌, List, [], ◌∷◌, map, filter, length, max, All, refl, sym, ap, ◌∙◌, subst, arith}
 use Rattle.std.specs.Bool.{⊤}
 use Rattle.std.proofs.lemmas.Bool.{and_parts, cases_Bool}
 use Rattle.std.proofs.lemmas.List.Folds.{Any-from_list_any}
@@ -16,10 +16,10 @@ use Rattle.geom_core.proofs.CollapseCorners.{collapsed-corners, IsGridPoint-corn
 use Rattle.geom_core.proofs.CollapseCounts.{map-collapsed}
 use Rattle.geom_core.proofs.CollapseLaws.{edge_sum-collapsed, OnRim-collapsed}
 use Rattle.rim_collapse.specs.declared.states.Kept.{Kept}
-use Rattle.rim_collapse.specs.Legal.{has_both, has_edge, is_among, is_collapse, is_legal, is_legal_collapse}
+use Rattle.rim_collapse.specs.Legal.{has_both, has_edge, is_among, is_legal, is_legal_collapse}
 use Rattle.rim_collapse.specs.Moved.{moved_of, shift}
-use Rattle.rim_collapse.specs.Simplified.{IsEnd, IsNext, IsSimplified, Lead}
-use Rattle.rim_collapse.specs.Sound.{AreMoved, IsMoved, IsSound}
+use Rattle.rim_collapse.specs.Simplified.{IsNext, IsSimplified, Lead}
+use Rattle.rim_collapse.specs.Sound.{AreMoved, IsSound}
 use Rattle.rim_collapse.specs.States.{after, begun, moved_to, present, tagged_of}
 
 -- ---- one collapse after another

@@ -4,5 +4,6 @@ pub mod Examples
 pub mod FacetLaws
 pub mod Following
 pub mod Listed
+pub mod ListedRows
 pub mod Products
 pub mod StepLaws

@@ -1,7 +1,7 @@
 -- The facets that are listed of a list of triangles, and candidates among them.
-use Rattle.std.proofs.Common.{◌≡◌, ℕ, ◌+◌, ◌*◌, ◌^◌, ◌<◌, ◌≤◌, Bool, true, false, not, ◌&&◌, ◌||◌, ℤ, ◌-ℤ◌, ◌*ℤ◌, unsigned_abs, List, [], ◌∷◌, map, filter, take, length, get_or, All, Contains, if◌then◌else◌, refl, sym, ap, ◌∙◌, arith}
+use Rattle.std.proofs.Common.{◌≡◌, ℕ, ◌^◌, ◌≤◌, Bool, true, false, ◌&&◌, ◌||◌, ℤ, ◌-ℤ◌, ◌*ℤ◌, unsigned_abs, List, [], ◌∷◌, map, length, All, Contains, if◌then◌else◌, refl, ap, ◌∙◌, arith}
 use Rattle.std.specs.List.{list_any}
-use Rattle.std.proofs.lemmas.Bool.{and_parts, and_from}
+use Rattle.std.proofs.lemmas.Bool.{and_parts}
 use Rattle.std.proofs.lemmas.Bool.Decides.{nat_tests}
 use Rattle.std.specs.Prelude.{nat_le, IsTrue}
 use Rattle.std.proofs.lemmas.List.Elements.{All-filter, All-map, filter_passes}
@@ -11,10 +11,9 @@ use Rattle.geom_core.specs.declared.triangles.Tri.{Tri}
 use Rattle.geom_core.specs.Corners.{has_corner}
 use Rattle.geom_core.specs.Distance.{distance}
 use Rattle.geom_core.specs.EdgeSum.{same_point}
-use Rattle.geom_core.specs.Limits.{is_grid_coordinate, IsGridCoordinate, is_grid_point, IsGridPoint, has_grid_corners, HasGridCorners, has_distinct_corners, IsGridTriangle}
+use Rattle.geom_core.specs.Limits.{is_grid_coordinate, IsGridCoordinate, is_grid_point, IsGridPoint, HasGridCorners, IsGridTriangle}
 use Rattle.geom_core.proofs.SizeLaws.{size-mul, size-sub}
 use Rattle.rim_collapse.specs.declared.facets.Facet.{Facet}
-use Rattle.rim_collapse.specs.declared.keys.Key.{Key}
 use Rattle.rim_collapse.specs.declared.vectors.Vector.{Vector}
 use Rattle.rim_collapse.specs.Cost.{around, cost, key_of}
 use Rattle.rim_collapse.specs.Legal.{has_edge, is_legal}

@@ -1,17 +1,16 @@
 -- The next collapse among those of all points, and the state after it.
-use Rattle.std.proofs.Common.{◌≡◌, ◌⊎◌, inl, inr, ℕ, ◌+◌, ◌*◌, ◌<◌, ◌≤◌, Bool, true, false, not, ◌&&◌, ◌||◌, if◌then◌else◌, List, [], ◌∷◌, ◌++◌, map, flat_map, filter, cond, max, Ordering, take, length, get_or, All, Any, Contains, IsTrue, Option, Some, None, refl, sym, ap, ◌∙◌, subst, arith}
+use Rattle.std.proofs.Common.{◌≡◌, inl, inr, ℕ, ◌+◌, ◌*◌, ◌<◌, Bool, true, false, not, ◌&&◌, if◌then◌else◌, List, [], ◌∷◌, ◌++◌, map, flat_map, filter, cond, max, Ordering, take, length, get_or, All, Any, Contains, IsTrue, Option, Some, None, refl, sym, ap, ◌∙◌, subst, arith}
 use Prim.Native.Nat.{zero, suc}
 use Rattle.std.specs.List.{list_any}
 use Rattle.std.specs.Ordering.{is_eq, is_lt, ordering_reverse}
 use Rattle.std.specs.declared.cmp.Ordering.TheVariants.{Less, Equal, Greater}
-use Rattle.std.proofs.lemmas.Bool.{and_parts, cases_Bool, or_cases}
+use Rattle.std.proofs.lemmas.Bool.{and_parts}
 use Rattle.std.proofs.lemmas.List.Elements.{All-contains, All-more, All-weaker, Contains-append_left, Contains-append_right, filter-append}
 use Rattle.std.proofs.lemmas.List.{append-nil, map-append, take_more}
 use Rattle.std.proofs.lemmas.List.Folds.{Any-from_list_any}
 use Rattle.std.proofs.lemmas.List.Sorted.{ranks_by}
 use Rattle.geom_core.specs.declared.points.Pt.{Pt}
 use Rattle.geom_core.specs.declared.triangles.Tri.{Tri}
-use Rattle.geom_core.specs.declared.triangles.Tagged.{Tagged}
 use Rattle.geom_core.specs.Collapses.{collapsed, replaced}
 use Rattle.geom_core.specs.Corners.{has_corner, IsCornerIn}
 use Rattle.geom_core.specs.EdgeSum.{same_point}
@@ -26,7 +25,7 @@ use Rattle.rim_collapse.specs.Cost.{key_cmp, key_of}
 use Rattle.rim_collapse.specs.Legal.{has_both, has_edge, is_among, is_legal_collapse}
 use Rattle.rim_collapse.specs.Moved.{moved_of, shift}
 use Rattle.rim_collapse.specs.Simplified.{IsNext, Lead}
-use Rattle.rim_collapse.specs.States.{after, begun, moved_to, present}
+use Rattle.rim_collapse.specs.States.{after, moved_to, present}
 use Rattle.rim_collapse.specs.Internal.Bests.{IsBestAmong, IsBestAt, lesser_of}
 use Rattle.rim_collapse.specs.Internal.Points.{corners_of}
 use Rattle.rim_collapse.specs.Internal.Steps.{IsNextOf}

@@ -4,7 +4,7 @@ ghost use Rattle.rim_collapse.specs.Cost.{key_cmp};
 
 use geom_core::Pt;
 
-/// A collapse, and what decides which of two goes first: the one with the lesser cost, then the shorter one, then
+/// A collapse, and what decides which of two is first: the one with the lesser cost, then the shorter one, then
 /// the one of the lesser point, then the one with the lesser target.
 #[derive(Clone, Copy, Debug, PartialEq, Eq, PartialOrd, Ord)]
 pub(crate) struct Key {
@@ -14,7 +14,7 @@ pub(crate) struct Key {
     pub distance: u32,
     /// The point that moves.
     pub from: Pt,
-    /// Where it goes.
+    /// Its target.
     pub to: Pt,
 }
 

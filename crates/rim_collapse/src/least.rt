@@ -14,7 +14,7 @@ use crate::keys::Key;
 use crate::vectors::minus;
 use geom_core::{Memory, Pt, Tri, cheb};
 
-/// Whether the collapse goes before the best so far, if there is one.
+/// Whether the collapse sorts before the best so far, or is the first one.
 fn beats(key: Key, best: Option<Key>) -> bool
     ensures { result ≡ beats key best }
 {
@@ -24,7 +24,7 @@ fn beats(key: Key, best: Option<Key>) -> bool
     }
 }
 
-/// Returns the collapse of `a` to `b` if it is legal and goes before the best so far, else the best so far.
+/// Returns the collapse of `a` to `b` if it is legal and sorts before the best so far, else the best so far.
 fn better(facets: &[Facet], a: Pt, b: Pt, best: Option<Key>) -> Option<Key>
     requires facet_limit { length facets.now ≤ TRIANGLES_PER_GROUP }
     requires facets { All (IsFacet a) facets.now }

@@ -21,6 +21,8 @@ mod least;
 mod points;
 mod simplifying;
 mod states;
+#[cfg(test)]
+mod tests;
 mod vectors;
 
 pub use simplifying::{Simplified, simplify};

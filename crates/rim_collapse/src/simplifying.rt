@@ -103,7 +103,7 @@ fn end_state(alloc: Global, tris: &[Tagged], locked: &BTreeSet<Pt>) -> Result<Ve
 /// Simplifies a list of triangles: does the least legal collapse of a point that isn't locked, again and again, until
 /// at most half of the triangles are left or no collapse is legal.
 ///
-/// The collapse with the least cost goes first; at equal cost the shortest, then the one of the least point, then the
+/// The collapse with the least cost is done first; at equal cost the shortest, then the one of the least point, then the
 /// one with the least target. The triangles that are left keep their order, their sources and the places of their
 /// corners. How well the result looks is not promised. On `Memory` the list is gone.
 pub fn simplify(

@@ -1,10 +1,9 @@
-use Rattle.std.proofs.Common.{◌≡◌, inl, inr, true, sum_by, sym, ap, ◌∙◌}
+use Rattle.std.proofs.Common.{◌≡◌, inl, inr, sum_by, sym, ap, ◌∙◌}
 use Rattle.std.proofs.lemmas.Bool.{and_from}
 use Rattle.rim_collapse.specs.declared.keys.Key.{Key}
 use Rattle.rim_collapse.specs.Cost.{key_of}
-use Rattle.rim_collapse.specs.Internal.Bests.{beats, is_open}
+use Rattle.rim_collapse.specs.Internal.Bests.{beats}
 use Rattle.rim_collapse.specs.Internal.Facets.{facet_cost, tris_in}
-use Rattle.rim_collapse.specs.Legal.{has_edge, is_legal}
 use Rattle.rim_collapse.proofs.BestLaws.{best-kept, best-taken, cost-facets, edge-facets, legal-facets, source-grid, target-grid}
 use Rattle.rim_collapse.proofs.Listed.{closed-illegal, closed-itself, key-is}
 use Rattle.rim_collapse.proofs.least.better.Goals as goal

@@ -1,4 +1,4 @@
-use Rattle.std.proofs.Common.{◌≡◌, map, length, ◌≤◌, sym, ap, ◌∙◌, subst, arith, All}
+use Rattle.std.proofs.Common.{◌≡◌, map, sym, ◌∙◌, subst, arith, All}
 use Rattle.rim_collapse.specs.Cost.{around}
 use Rattle.rim_collapse.specs.Internal.Bests.{IsBestOf}
 use Rattle.rim_collapse.specs.Internal.Facets.{IsFacet, facet_of, tris_in}

@@ -1,4 +1,4 @@
-use Rattle.std.proofs.Common.{◌≡◌, true, false, sym, ◌∙◌}
+use Rattle.std.proofs.Common.{sym, ◌∙◌}
 use Rattle.rim_collapse.specs.States.{after}
 use Rattle.rim_collapse.proofs.StepLaws.{after-pushed, after-skipped}
 use Rattle.rim_collapse.proofs.states.list_after.Goals as goal
