@@ -101,7 +101,8 @@ def check(points):
     if size == 0:
         sys.exit('look_at: all vertices are one point')
     if size * STEPS < FEWEST_STEPS:
-        print(f'look_at: the model has {ceil(size * STEPS):,} steps along its longest side, so fine detail is rounded '
+        steps = ceil(size * STEPS)
+        print(f'look_at: the model has {steps:,} step{"s" * (steps != 1)} along its longest side, so fine detail is rounded '
               f'away: {min(65536, scale_for(reach)):,} steps to the unit would keep it; `draw` reads {STEPS:,}', file=sys.stderr)
 
 

@@ -3,6 +3,7 @@ pub mod AuditExamples
 pub mod CameraWords
 pub mod CommandWords
 pub mod DrawAnswers
+pub mod DrawExamples
 pub mod DrawWords
 pub mod DrawnItems
 pub mod NumberParts
