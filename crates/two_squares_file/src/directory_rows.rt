@@ -19,8 +19,17 @@ const DIRECTORY: [&str; 10] = [
     "c3658e2287d94f42e2d95eaac892329122f262a6f49d1802097a0039d419c6a5",
 ];
 
+/// The counts of the two squares.
+pub(crate) const TWO_SQUARES: Counts = Counts {
+    groups: 3,
+    clusters: 4,
+    pages: 3,
+    roots: 1,
+    sources: 8,
+};
+
 /// The bytes of the directory.
-fn directory(alloc: Global) -> Result<Vec<u8>, Fail> {
+pub(crate) fn directory(alloc: Global) -> Result<Vec<u8>, Fail> {
     let mut bytes = Vec::new(alloc);
     for part in DIRECTORY {
         let part = hex::decode(alloc, part).map_err(|_| "hex")?;
@@ -34,14 +43,7 @@ fn broken(alloc: Global, bytes: &[u8]) -> Result<String, Memory> {
     if bytes.len() != 260 {
         return Ok(format!(in alloc; "another length")?);
     }
-    let counts = Counts {
-        groups: 3,
-        clusters: 4,
-        pages: 3,
-        roots: 1,
-        sources: 8,
-    };
-    match decode_directory(alloc, bytes, &counts) {
+    match decode_directory(alloc, bytes, &TWO_SQUARES) {
         Ok(_directory) => Ok(format!(in alloc; "none")?),
         Err(Refused::Bad(found)) => Ok(format!(in alloc; "{} {}", found.rule, found.offset)?),
         Err(Refused::Memory) => Err(Memory),
