@@ -11,8 +11,9 @@ abbrev pub stated_sizes : List ClusterHead → List ℕ
 stated_sizes clusters = map (λ cluster. cluster.tris) clusters
 
 -- one more cluster, of the stated size
-pub sizes_more : (tris : List (List Tagged)) (members : List Tagged) (clusters : List ClusterHead) (i : ℕ) (d : ClusterHead) →
-    i < length clusters → sizes_of tris ≡ stated_sizes (take i clusters) → length members ≡ (get_or clusters i d).tris →
+pub sizes_more : (tris : List (List Tagged)) (members : List Tagged) →
+    (clusters : List ClusterHead) (i : ℕ) (d : ClusterHead) → i < length clusters →
+    sizes_of tris ≡ stated_sizes (take i clusters) → length members ≡ (get_or clusters i d).tris →
     sizes_of (tris ++ members ∷ []) ≡ stated_sizes (take (i + 1) clusters)
 sizes_more tris members clusters i d below so_far size =
     map-append (λ (m : List Tagged). length m) tris (members ∷ [])

@@ -9,9 +9,9 @@
 //! `geode_bench heads N` reads nothing. It checks the heads of a DAG of N groups of one cluster each, a thousand groups
 //! to a page, in which each group but the first is made into the one before, and prints the time that the check took.
 //!
-//! `geode_bench pages N [SIZE]` reads nothing. It makes a DAG of N pages of leaves of SIZE triangles, or of 126, thirteen
-//! of which fill a page. It makes the index of the pages, encodes, decodes and digests each page, and prints the
-//! processor time of each of the four.
+//! `geode_bench pages N [SIZE]` reads nothing. It makes a DAG of N pages of leaves of SIZE triangles, or of 126,
+//! thirteen of which fill a page. It makes the index of the pages, encodes, decodes and digests each page, and prints
+//! the processor time of each of the four.
 #![tactic(auto)]
 
 ghost use Rattle.geom_core.specs.Limits.{AreGridTriangles};

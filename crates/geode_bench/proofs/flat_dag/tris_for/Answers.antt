@@ -8,8 +8,11 @@ pub clusters-preserved : goal.clusters-preserved
 clusters-preserved c =
     let pushed = c.in_ok-push.ensures.items in
     let members = c.in_ok-triangles.field-0 in
+    let made = c.in_ok-triangles.ensures in
+    let before = c.clusters.tris.items in
     record {
-      counts = ap sizes_of pushed ∙ sizes_more c.clusters.tris.items members c.args.clusters.now c.clusters.cluster-index _
-          c.clusters-test.true c.clusters.invariant.counts c.in_ok-triangles.ensures.count;
-      triangles = rw pushed (All-push (All (IsSourcedTriangle 1)) c.clusters.tris.items members c.clusters.invariant.triangles c.in_ok-triangles.ensures.triangles);
+      counts = ap sizes_of pushed ∙ sizes_more before members c.args.clusters.now c.clusters.cluster-index _
+          c.clusters-test.true c.clusters.invariant.counts made.count;
+      triangles = rw pushed (All-push (All (IsSourcedTriangle 1)) before members c.clusters.invariant.triangles
+          made.triangles);
     }
