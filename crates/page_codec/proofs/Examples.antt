@@ -1,23 +1,17 @@
 -- Worked examples of the definitions, computed by the checker: the bytes of the two squares, and breaks of the grammar.
-use Rattle.std.proofs.Common.{◌≡◌, ℕ, ◌+◌, List, [], ◌∷◌, ◌++◌, map, take, set, Option, Some, None, refl}
+use Rattle.std.proofs.Common.{◌≡◌, ℕ, ◌+◌, List, [], ◌∷◌, ◌++◌, map, set, Option, Some, None, refl}
 use Rattle.std.specs.List.{range_with_len, flat_map}
 use Rattle.geom_core.specs.Boxes.{is_under}
 use Rattle.geom_core.specs.EdgeSum.{same_point}
 use Rattle.geom_core.specs.Limits.{has_distinct_corners}
-use Rattle.geom_core.specs.declared.triangles.Tagged.{Tagged}
 use Rattle.dag_core.specs.declared.counts.Counts.{Counts}
-use Rattle.dag_core.specs.declared.groups.Group.{Group}
-use Rattle.dag_core.specs.declared.cluster_heads.ClusterHead.{ClusterHead}
-use Rattle.dag_core.specs.Pages.{clusters_on}
 use Rattle.dag_core.specs.Members.{home}
 use Rattle.dag_core.specs.Ranges.{counts_of}
-use Rattle.dag_core.proofs.TwoSquares.{left, sourced, corner_a, corner_b, middle, fine_square, coarse_square, two_squares, two_squares_heads, leaf_of_four, made_of_two}
+use Rattle.dag_core.proofs.TwoSquares.{left, sourced, corner_a, corner_b, middle, two_squares, two_squares_heads, leaf_of_four, made_of_two}
 use Rattle.page_codec.specs.declared.breaks.Break.{Break}
-use Rattle.page_codec.specs.declared.pages.Page.{Page}
 use Rattle.page_codec.specs.Breaks.{first_of, triangle_rules, tail_breaks, page_breaks, group_rules, head_rules, directory_breaks}
 use Rattle.page_codec.specs.Numbers.{numbers_bytes, numbers_of}
-use Rattle.page_codec.specs.Reading.{triangles_of, page_of}
-use Rattle.page_codec.specs.Records.{triangle_numbers, triangle_from, triangle_bytes, triangle_of, group_numbers, group_from, group_bytes, head_numbers, head_from, head_bytes}
+use Rattle.page_codec.specs.Records.{triangle_numbers, triangle_from, triangle_bytes, group_numbers, group_from, group_bytes, head_numbers, head_from, head_bytes}
 use Rattle.page_codec.specs.Spelling.{cluster_bytes, tail_bytes, page_bytes_in, page_in, counts_bytes, magic, page_at}
 
 -- ---- what is spelt
