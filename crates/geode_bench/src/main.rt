@@ -8,11 +8,17 @@
 //!
 //! `geode_bench heads N` reads nothing. It checks the heads of a DAG of N groups of one cluster each, a thousand groups
 //! to a page, in which each group but the first is made into the one before, and prints the time that the check took.
+//!
+//! `geode_bench pages N [SIZE]` reads nothing. It makes a DAG of N pages of leaves of SIZE triangles, or of 126,
+//! thirteen of which fill a page. It makes the index of the pages, encodes, decodes and digests each page, and prints
+//! the processor time of each of the four.
 #![tactic(auto)]
 
 ghost use Rattle.geom_core.specs.Limits.{AreGridTriangles};
 
+mod flat_dag;
 mod heads;
+mod pages;
 mod rims;
 mod works;
 
@@ -20,6 +26,7 @@ use geom_core::limits::STEPS_PER_UNIT;
 use geom_core::{Memory, Tri};
 use heads::time_check;
 use obj_source::read_obj;
+use pages::{layout_of, time_pages};
 use rims::count_joined_rims;
 use span_io::StdSource;
 use std::env;
@@ -30,9 +37,12 @@ fn main(rt: HostRuntime) -> ExitCode {
     if let Some(groups) = group_count(&rt) {
         return time_check(&rt, groups);
     }
+    if let Some(layout) = layout_of(&rt) {
+        return time_pages(&rt, layout);
+    }
     let Some(work) = work_of(&rt) else {
         let _ = eprintln!(rt;
-            "geode_bench: one of read, sort, edges, rims, joined-rims, clusters, or heads N"
+            "geode_bench: one of read, sort, edges, rims, joined-rims, clusters, heads N, or pages N"
         );
         return ExitCode::from(2);
     };

@@ -1,5 +1,5 @@
 -- A directory without a break is what the directory that it reads as spells.
-use Rattle.std.proofs.Common.{◌≡◌, ℕ, zero, suc, ◌+◌, ◌*◌, ◌<◌, ◌≤◌, Bool, true, false, cond, eqb, leb, Some, None, List, [], ◌∷◌, ◌++◌, length, get_or, take, drop, refl, sym, ap, ◌∙◌, arith}
+use Rattle.std.proofs.Common.{◌≡◌, ℕ, zero, suc, ◌+◌, ◌*◌, Bool, true, false, cond, eqb, leb, Some, None, List, [], ◌++◌, length, get_or, take, drop, refl, sym, ap, ◌∙◌, arith}
 use Rattle.std.specs.List.{flat_map}
 use Rattle.std.specs.Int.{w32}
 use Rattle.std.proofs.lemmas.Bool.Decides.{nat_tests}
@@ -11,7 +11,7 @@ use Rattle.dag_core.specs.Ranges.{is_error, is_group_box, is_page, are_members}
 use Rattle.page_codec.specs.Numbers.{numbers_of, numbers_bytes, records, IsBytes}
 use Rattle.page_codec.specs.Records.{terminal_number, maker_number, group_numbers, group_from, group_bytes, group_of, head_numbers, head_from, head_bytes, head_of}
 use Rattle.page_codec.specs.Breaks.{unless, breaks_in, group_rules, head_rules, directory_breaks, first_directory_break}
-use Rattle.page_codec.specs.Reading.{digest_of, directory_of, clusters_at, digests_at}
+use Rattle.page_codec.specs.Reading.{digest_of, directory_of}
 use Rattle.page_codec.specs.Spelling.{digest_bytes, directory_bytes, directory_length}
 use Rattle.page_codec.proofs.NumberLaws.{numbers_bytes-read}
 use Rattle.page_codec.proofs.RecordLaws.{IsBytes-drop, spelt-records, nil-left, nil-right}

@@ -1,24 +1,23 @@
 -- A directory that fits breaks no rule as it is spelt, and reads back.
-use Rattle.std.proofs.Common.{◌≡◌, ℕ, ℤ, zero, suc, ◌+◌, ◌*◌, ◌<◌, ◌≤◌, Bool, true, false, ◌&&◌, cond, eqb, leb, ltb, Option, Some, None, List, [], ◌∷◌, ◌++◌, length, get_or, take, drop, refl, sym, ap, ◌∙◌, arith}
+use Rattle.std.proofs.Common.{◌≡◌, ℕ, ◌+◌, ◌*◌, ◌<◌, ◌≤◌, Bool, true, false, ◌&&◌, eqb, leb, Option, Some, None, List, [], ◌∷◌, ◌++◌, length, get_or, drop, refl, sym, ap, ◌∙◌, arith}
 use Rattle.std.specs.List.{All, flat_map}
 use Rattle.std.proofs.lemmas.Bool.Decides.{nat_tests}
 use Rattle.std.proofs.lemmas.List.{append-nil, append_assoc, length-append, drop_at}
 use Rattle.std.proofs.lemmas.List.Elements.{All-from_recursion}
 use Rattle.geom_core.specs.declared.points.Pt.{Pt}
 use Rattle.geom_core.specs.declared.boxes.Cube.{Cube}
-use Rattle.geom_core.specs.declared.digests.Digest32.{Digest32}
 use Rattle.geom_core.specs.Limits.{is_grid_coordinate, is_grid_point}
 use Rattle.geom_core.specs.Boxes.{is_under}
 use Rattle.dag_core.specs.declared.counts.Counts.{Counts}
 use Rattle.dag_core.specs.declared.groups.Group.{Group}
 use Rattle.dag_core.specs.declared.cluster_heads.ClusterHead.{ClusterHead}
-use Rattle.dag_core.specs.Ranges.{AreCountsInRange, counts_of, is_error, is_group_box, is_page, are_members, is_group_or_none, is_cluster_size, IsGroupInRange, IsClusterInRange}
+use Rattle.dag_core.specs.Ranges.{AreCountsInRange, counts_of, is_group_box, is_group_or_none, IsGroupInRange, IsClusterInRange}
 use Rattle.page_codec.specs.declared.directories.Directory.{Directory}
-use Rattle.page_codec.specs.Numbers.{records, numbers_of, numbers_bytes}
-use Rattle.page_codec.specs.Records.{coordinate_number, coordinate_from, terminal_number, maker_number, maker_from, group_numbers, group_from, group_bytes, group_of, head_numbers, head_from, head_bytes, head_of}
-use Rattle.page_codec.specs.Breaks.{unless, breaks_in, group_rules, head_rules, directory_breaks, first_of, first_directory_break}
+use Rattle.page_codec.specs.Numbers.{records, numbers_of}
+use Rattle.page_codec.specs.Records.{terminal_number, maker_number, maker_from, group_numbers, group_from, group_bytes, group_of, head_numbers, head_from, head_bytes, head_of}
+use Rattle.page_codec.specs.Breaks.{breaks_in, group_rules, head_rules, directory_breaks, first_directory_break}
 use Rattle.page_codec.specs.Fits.{FitsDirectory}
-use Rattle.page_codec.specs.Reading.{digest_of, heads_of, digests_of, directory_of}
+use Rattle.page_codec.specs.Reading.{digest_of, directory_of}
 use Rattle.page_codec.specs.Spelling.{digest_bytes, directory_bytes}
 use Rattle.page_codec.proofs.NumberLaws.{Is32, numbers_of-spelt, length-numbers_bytes}
 use Rattle.page_codec.proofs.RecordLaws.{records-spelt, breaks_in-spelt}

@@ -1,23 +1,17 @@
 -- Worked examples of the definitions, computed by the checker: the bytes of the two squares, and breaks of the grammar.
-use Rattle.std.proofs.Common.{◌≡◌, ℕ, ◌+◌, List, [], ◌∷◌, ◌++◌, map, take, set, Option, Some, None, refl}
+use Rattle.std.proofs.Common.{◌≡◌, ℕ, ◌+◌, List, [], ◌∷◌, ◌++◌, map, set, Option, Some, None, refl}
 use Rattle.std.specs.List.{range_with_len, flat_map}
 use Rattle.geom_core.specs.Boxes.{is_under}
 use Rattle.geom_core.specs.EdgeSum.{same_point}
 use Rattle.geom_core.specs.Limits.{has_distinct_corners}
-use Rattle.geom_core.specs.declared.triangles.Tagged.{Tagged}
 use Rattle.dag_core.specs.declared.counts.Counts.{Counts}
-use Rattle.dag_core.specs.declared.groups.Group.{Group}
-use Rattle.dag_core.specs.declared.cluster_heads.ClusterHead.{ClusterHead}
-use Rattle.dag_core.specs.Pages.{clusters_on}
 use Rattle.dag_core.specs.Members.{home}
 use Rattle.dag_core.specs.Ranges.{counts_of}
-use Rattle.dag_core.proofs.TwoSquares.{left, sourced, corner_a, corner_b, middle, fine_square, coarse_square, two_squares, two_squares_heads, leaf_of_four, made_of_two}
+use Rattle.dag_core.proofs.TwoSquares.{left, sourced, corner_a, corner_b, middle, two_squares, two_squares_heads, leaf_of_four, made_of_two}
 use Rattle.page_codec.specs.declared.breaks.Break.{Break}
-use Rattle.page_codec.specs.declared.pages.Page.{Page}
 use Rattle.page_codec.specs.Breaks.{first_of, triangle_rules, tail_breaks, page_breaks, group_rules, head_rules, directory_breaks}
 use Rattle.page_codec.specs.Numbers.{numbers_bytes, numbers_of}
-use Rattle.page_codec.specs.Reading.{triangles_of, page_of}
-use Rattle.page_codec.specs.Records.{triangle_numbers, triangle_from, triangle_bytes, triangle_of, group_numbers, group_from, group_bytes, head_numbers, head_from, head_bytes}
+use Rattle.page_codec.specs.Records.{triangle_numbers, triangle_from, triangle_bytes, group_numbers, group_from, group_bytes, head_numbers, head_from, head_bytes}
 use Rattle.page_codec.specs.Spelling.{cluster_bytes, tail_bytes, page_bytes_in, page_in, counts_bytes, magic, page_at}
 
 -- ---- what is spelt
@@ -120,3 +114,30 @@ pub head_bounds : rules_of_head 2 128 ∷ rules_of_head 3 128 ∷ rules_of_head 
     ≡ keeps ∷ (6 ∷ []) ∷ keeps ∷ (6 ∷ []) ∷ (7 ∷ []) ∷ (7 ∷ []) ∷ (6 ∷ 7 ∷ []) ∷ []
 unfolding head_from head_rules
 head_bounds = refl
+
+-- ---- breaks of a directory: that of the two squares without its digests, which break no rule
+
+abbrev short_directory : List ℕ
+short_directory = flat_map group_bytes two_squares_heads.groups ++ flat_map head_bytes two_squares_heads.clusters
+
+abbrev first_record_break : List ℕ → Option Break
+first_record_break bytes = first_of (directory_breaks counts bytes)
+
+pub directory_has_no_break : first_record_break short_directory ≡ None
+unfolding numbers_bytes numbers_of group_numbers group_from head_numbers head_from directory_breaks group_rules head_rules is_under
+directory_has_no_break = refl
+
+-- the count of group 0 as 9 and the error of group 1 as 2^31: the earlier record comes first, with its greater rule
+pub earlier_group_comes_first : first_record_break (set (set short_directory 40 9) 47 128) ≡ break_of 5 0
+unfolding numbers_bytes numbers_of group_numbers group_from head_numbers head_from directory_breaks group_rules head_rules is_under
+earlier_group_comes_first = refl
+
+-- 0 triangles in cluster 0 and the maker of cluster 1 as 3
+pub earlier_cluster_comes_first : first_record_break (set (set short_directory 136 0) 140 3) ≡ break_of 7 132
+unfolding numbers_bytes numbers_of group_numbers group_from head_numbers head_from directory_breaks group_rules head_rules is_under
+earlier_cluster_comes_first = refl
+
+-- the maker of cluster 0 as 3 and the page of group 2 as 3: any group comes before any cluster
+pub groups_come_before_clusters : first_record_break (set (set short_directory 132 3) 120 3) ≡ break_of 4 88
+unfolding numbers_bytes numbers_of group_numbers group_from head_numbers head_from directory_breaks group_rules head_rules is_under
+groups_come_before_clusters = refl

@@ -1,14 +1,13 @@
 -- The parts of a laid-out DAG's file read back what the DAG holds.
-use Rattle.std.proofs.Common.{◌≡◌, ℕ, zero, suc, ◌+◌, ◌-◌, ◌*◌, ◌<◌, ◌≤◌, List, [], ◌∷◌, ◌++◌, length, map, replicate, get_or, take, drop, refl, sym, ap, ◌∙◌, subst, inl, inr, leb, arith}
+use Rattle.std.proofs.Common.{◌≡◌, ℕ, zero, suc, ◌+◌, ◌-◌, ◌*◌, ◌<◌, ◌≤◌, List, [], ◌∷◌, ◌++◌, length, map, replicate, take, drop, refl, sym, ap, ◌∙◌, subst, inl, inr, leb, arith}
 use Rattle.std.specs.List.{All, flat_map, range_with_len}
 use Rattle.std.proofs.Math.Nat.{mul-suc}
 use Rattle.std.proofs.Math.Seq.{drop-append-add}
 use Rattle.std.proofs.lemmas.Bool.{cases_lt}
 use Rattle.std.proofs.lemmas.Bool.Decides.{nat_tests}
-use Rattle.std.proofs.lemmas.List.{append_assoc, append-nil, get_or_past, length-append, length-replicate, take_all, take_at, drop_at}
+use Rattle.std.proofs.lemmas.List.{append_assoc, get_or_past, length-append, length-replicate, take_all, take_at, drop_at}
 use Rattle.std.proofs.lemmas.List.Elements.{All-nil, All-cons, All-head, All-tail, All-from_recursion}
 use Rattle.std.proofs.lemmas.List.FromFn.{length-map-range_with_len}
-use Rattle.sha2.specs.Sha256.{sha256}
 use Rattle.sha2.proofs.Facts256.{length-sha256}
 use Rattle.geom_core.specs.declared.limits.TheConstants.{PAGE_BYTES}
 use Rattle.geom_core.specs.declared.triangles.Tagged.{Tagged}
@@ -25,7 +24,7 @@ use Rattle.page_codec.specs.declared.headers.Header.{Header}
 use Rattle.page_codec.specs.declared.pages.PageCluster.{PageCluster}
 use Rattle.page_codec.specs.Fits.{FitsPage, FitsDirectory}
 use Rattle.page_codec.specs.Numbers.{numbers_of}
-use Rattle.page_codec.specs.Reading.{page_of, directory_of, header_of, counts_from}
+use Rattle.page_codec.specs.Reading.{page_of, directory_of, header_of}
 use Rattle.page_codec.specs.Records.{group_bytes, head_bytes}
 use Rattle.page_codec.specs.Spelling.{digest_bytes, page_cluster, page_in, page_bytes, page_digest, tail_bytes, clusters_bytes, directory_bytes, directory_length, directory_in, counts_numbers, counts_bytes, header_bytes, header_in, directory_digest, file_bytes, page_at}
 use Rattle.page_codec.proofs.DirectorySpelt.{directory_of-spelt, length-groups, length-heads}

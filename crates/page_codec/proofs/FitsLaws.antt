@@ -1,5 +1,5 @@
 -- What is read from bytes without a break fits: pages their heads, directories their ranges.
-use Rattle.std.proofs.Common.{◌≡◌, ℕ, zero, suc, ◌+◌, ◌*◌, ◌<◌, ◌≤◌, Bool, true, false, ◌&&◌, ltb, leb, None, List, [], ◌∷◌, ◌++◌, length, map, get_or, take, drop, refl, sym, ap, ◌∙◌, subst, arith}
+use Rattle.std.proofs.Common.{◌≡◌, ℕ, zero, suc, ◌+◌, ◌*◌, ◌≤◌, Bool, true, false, ◌&&◌, ltb, leb, None, List, [], ◌∷◌, ◌++◌, length, map, get_or, take, drop, refl, sym, ap, ◌∙◌, subst, arith}
 use Rattle.std.specs.List.{All, sum_by}
 use Rattle.std.proofs.Math.Nat.{mul-suc}
 use Rattle.std.proofs.lemmas.Bool.Decides.{nat_tests}
@@ -21,7 +21,7 @@ use Rattle.page_codec.specs.Numbers.{records, numbers_of}
 use Rattle.page_codec.specs.Records.{triangle_of, group_from, group_of, head_of}
 use Rattle.page_codec.specs.Breaks.{unless, breaks_in, broken_at, triangle_rules, group_rules, head_rules, page_breaks, tail_breaks, directory_breaks, first_page_break, first_directory_break}
 use Rattle.page_codec.specs.Fits.{FitsPage, FitsDirectory}
-use Rattle.page_codec.specs.Reading.{triangles_of, clusters_of, page_of, digest_of, heads_of, digests_of, directory_of}
+use Rattle.page_codec.specs.Reading.{triangles_of, clusters_of, page_of, digest_of, heads_of, directory_of}
 use Rattle.page_codec.specs.Spelling.{directory_length}
 use Rattle.page_codec.proofs.NumberLists.{drop-drop}
 use Rattle.page_codec.proofs.RecordLaws.{nil-left, nil-right, nil-broken}

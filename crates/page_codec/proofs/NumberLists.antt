@@ -1,9 +1,9 @@
 -- How lists of numbers read and spell.
-use Rattle.std.proofs.Common.{◌≡◌, ℕ, zero, suc, ◌+◌, ◌*◌, ◌<◌, List, [], ◌∷◌, ◌++◌, length, take, drop, slice_index, refl, sym, ap, ◌∙◌, arith}
+use Rattle.std.proofs.Common.{◌≡◌, ℕ, zero, suc, ◌+◌, ◌*◌, List, [], ◌∷◌, length, take, drop, refl, sym, ap, ◌∙◌, arith}
 use Rattle.std.proofs.Math.Seq.{drop-nil}
 use Rattle.byteorder.specs.Endian.{little_number, IsRead}
 use Rattle.byteorder.specs.Numbers.{little_from-take}
-use Rattle.page_codec.specs.Numbers.{records, numbers_of}
+use Rattle.page_codec.specs.Numbers.{records}
 
 -- dropping twice drops the sum
 pub drop-drop : {X : Type 0} (m n : ℕ) (xs : List X) → drop m (drop n xs) ≡ drop (n + m) xs

@@ -1,18 +1,16 @@
 -- The bytes of a page by its groups.
-use Rattle.std.proofs.Common.{◌≡◌, ℕ, zero, suc, ◌+◌, ◌-◌, ◌*◌, ◌<◌, ◌≤◌, Bool, true, cond, eqb, replicate, List, [], ◌∷◌, ◌++◌, length, map, get_or, take, drop, refl, sym, ap, ◌∙◌, arith}
+use Rattle.std.proofs.Common.{◌≡◌, ℕ, zero, suc, ◌+◌, ◌-◌, ◌*◌, ◌<◌, ◌≤◌, true, eqb, replicate, List, [], ◌∷◌, ◌++◌, length, map, get_or, take, drop, refl, sym, ap, ◌∙◌, arith}
 use Rattle.std.specs.List.{flat_map, range_with_len, sum_by}
 use Rattle.std.proofs.lemmas.Bool.Decides.{nat_tests}
 use Rattle.std.proofs.lemmas.Grind.{flat_map-append, common_steps}
-use Rattle.std.proofs.lemmas.List.{append_assoc, append-nil, drop_all, drop_more, length-append, length-drop, length-map}
+use Rattle.std.proofs.lemmas.List.{append-nil, drop_all, drop_more, length-append, length-drop, length-map}
 use Rattle.std.proofs.lemmas.List.Folds.{flat_map-map}
-use Rattle.geom_core.specs.declared.triangles.Tagged.{Tagged}
 use Rattle.dag_core.specs.declared.heads.Heads.{Heads}
 use Rattle.dag_core.specs.declared.dags.Dag.{Dag}
 use Rattle.dag_core.specs.Members.{no_group, no_cluster, group_at, cluster_at}
 use Rattle.dag_core.specs.Pages.{clusters_on, tris_on}
 use Rattle.dag_core.specs.Rules.{Checked}
 use Rattle.dag_core.specs.Triangles.{tris_at, HasTris}
-use Rattle.page_codec.specs.declared.pages.PageCluster.{PageCluster}
 use Rattle.page_codec.specs.Spelling.{cluster_bytes, clusters_bytes, page_cluster, page_in}
 use Rattle.page_codec.proofs.ClusterBytes.{length-cluster_bytes}
 use Rattle.page_codec.proofs.Homes.{members_of, counted, counted-more, counted-le, first-counted, all-counted, clusters_on-members}

@@ -1,9 +1,9 @@
 -- A page without a break is what the page that it reads as spells.
-use Rattle.std.proofs.Common.{◌≡◌, ℕ, zero, suc, ◌+◌, ◌-◌, ◌*◌, ◌<◌, ◌≤◌, Bool, true, false, cond, eqb, Some, None, List, [], ◌∷◌, ◌++◌, length, replicate, get_or, take, drop, refl, sym, ap, ◌∙◌, arith}
+use Rattle.std.proofs.Common.{◌≡◌, ℕ, zero, suc, ◌+◌, ◌-◌, ◌*◌, ◌≤◌, Bool, true, false, cond, eqb, None, List, [], ◌∷◌, ◌++◌, length, replicate, get_or, take, drop, refl, sym, ap, ◌∙◌, arith}
 use Rattle.std.specs.List.{flat_map, sum_by}
 use Rattle.std.proofs.lemmas.Bool.Decides.{nat_tests}
 use Rattle.std.proofs.lemmas.Grind.{flat_map-append, common_steps}
-use Rattle.std.proofs.lemmas.List.{append_assoc, length-append, length-take-le, length-drop, take-append-drop}
+use Rattle.std.proofs.lemmas.List.{length-take-le, length-drop, take-append-drop}
 use Rattle.std.proofs.Math.Nat.{mul-suc}
 use Rattle.geom_core.specs.declared.limits.TheConstants.{PAGE_BYTES}
 use Rattle.dag_core.specs.declared.heads.Heads.{Heads}
@@ -11,7 +11,7 @@ use Rattle.dag_core.specs.Members.{cluster_at}
 use Rattle.dag_core.specs.Pages.{clusters_on, tris_on}
 use Rattle.page_codec.specs.Numbers.{records, IsBytes}
 use Rattle.page_codec.specs.Records.{triangle_of, triangle_bytes}
-use Rattle.page_codec.specs.Breaks.{unless, breaks_in, broken_at, triangle_rules, tail_breaks, page_breaks, first_of, first_page_break}
+use Rattle.page_codec.specs.Breaks.{unless, breaks_in, broken_at, triangle_rules, tail_breaks, page_breaks, first_page_break}
 use Rattle.page_codec.specs.Reading.{triangles_of, clusters_of, page_of}
 use Rattle.page_codec.specs.Spelling.{cluster_bytes, clusters_bytes, tail_bytes, page_bytes_in, page_bytes}
 use Rattle.page_codec.proofs.NumberLists.{drop-drop}

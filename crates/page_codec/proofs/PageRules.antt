@@ -1,11 +1,11 @@
 -- What rule 5 and the ranges give for a page: its clusters are clusters of the heads, and its triangles fit.
-use Rattle.std.proofs.Common.{◌≡◌, ℕ, zero, suc, ◌+◌, ◌<◌, ◌≤◌, Bool, true, false, cond, not, ◌&&◌, ◌||◌, ltb, leb, List, [], ◌∷◌, length, get_or, refl, sym, ap, ◌∙◌, arith}
-use Rattle.std.specs.List.{All, filter, range_with_len, list_any}
+use Rattle.std.proofs.Common.{◌≡◌, ℕ, ◌<◌, ◌≤◌, Bool, true, false, not, ◌&&◌, ◌||◌, ltb, leb, length, refl, arith}
+use Rattle.std.specs.List.{All, range_with_len, list_any}
 use Rattle.std.proofs.lemmas.Bool.Decides.{nat_tests}
 use Rattle.std.proofs.lemmas.List.Elements.{All-filter}
 use Rattle.std.proofs.lemmas.List.FromFn.{get_or-range_with_len, length-range_with_len}
 use Rattle.dag_core.specs.declared.heads.Heads.{Heads}
-use Rattle.dag_core.specs.Pages.{page_of_cluster, clusters_on, tris_on, has_terminal_on, uppers_of}
+use Rattle.dag_core.specs.Pages.{clusters_on, tris_on, has_terminal_on, uppers_of}
 use Rattle.dag_core.specs.Rules.{Checked, breaks_page}
 
 -- a page's clusters are clusters of the heads

@@ -1,13 +1,12 @@
 -- What a page of source triangles spells breaks no rule, and reads back.
-use Rattle.std.proofs.Common.{◌≡◌, ℕ, ℤ, pos, negsuc, zero, suc, ◌+◌, ◌-◌, ◌*◌, ◌<◌, ◌≤◌, Bool, true, false, ◌&&◌, ltb, List, [], ◌∷◌, ◌++◌, length, map, replicate, get_or, take, drop, refl, sym, ap, ◌∙◌, arith}
+use Rattle.std.proofs.Common.{◌≡◌, ℕ, ℤ, pos, negsuc, ◌*◌, ◌<◌, ◌≤◌, Bool, true, false, ◌&&◌, ltb, List, [], ◌∷◌, ◌++◌, length, map, refl, ap, ◌∙◌, arith}
 use Rattle.std.specs.Prelude.{unsigned_abs}
 use Rattle.std.specs.Int.{w32}
-use Rattle.std.specs.List.{All, flat_map, sum_by}
+use Rattle.std.specs.List.{All}
 use Rattle.std.proofs.lemmas.Bool.Decides.{nat_tests}
-use Rattle.std.proofs.lemmas.Grind.{flat_map-append, common_steps}
 use Rattle.std.proofs.lemmas.Int.{to_z-of_z, fits_signed_from_abs}
-use Rattle.std.proofs.lemmas.List.{append_assoc, length-append, drop_at}
-use Rattle.std.proofs.lemmas.List.Elements.{All-nil, All-cons, All-head, All-tail, All-append, All-from_recursion}
+use Rattle.std.proofs.lemmas.List.{append_assoc, drop_at}
+use Rattle.std.proofs.lemmas.List.Elements.{All-head, All-tail, All-from_recursion}
 use Rattle.geom_core.specs.declared.triangles.Tri.{Tri}
 use Rattle.geom_core.specs.declared.triangles.Tagged.{Tagged}
 use Rattle.geom_core.specs.Limits.{is_grid_coordinate, is_grid_point, has_grid_corners, has_distinct_corners}
@@ -15,9 +14,9 @@ use Rattle.dag_core.specs.declared.heads.Heads.{Heads}
 use Rattle.dag_core.specs.Members.{cluster_at}
 use Rattle.dag_core.specs.TriangleRules.{IsSourcedTriangle}
 use Rattle.page_codec.specs.declared.pages.PageCluster.{PageCluster}
-use Rattle.page_codec.specs.Numbers.{records, numbers_of, numbers_bytes}
+use Rattle.page_codec.specs.Numbers.{records}
 use Rattle.page_codec.specs.Records.{coordinate_number, coordinate_from, triangle_numbers, triangle_from, triangle_bytes, triangle_of}
-use Rattle.page_codec.specs.Breaks.{unless, triangle_rules}
+use Rattle.page_codec.specs.Breaks.{triangle_rules}
 use Rattle.page_codec.specs.Reading.{triangles_of, clusters_of}
 use Rattle.page_codec.specs.Spelling.{cluster_bytes, clusters_bytes}
 use Rattle.page_codec.proofs.ClusterBytes.{length-triangle_bytes, length-cluster_bytes}

@@ -1,10 +1,9 @@
 -- Which rules of the grammar the bytes of a page and of a directory break, and which of them is the first.
-use Rattle.std.specs.Prelude.{◌≡◌, Bool, not, ◌&&◌, ◌==◌, nat_le, nat_lt, ℕ, zero, suc, ◌+◌, ◌*◌, List, [], ◌∷◌, ◌++◌, length, map, take, drop, Option, Some, None, slice_index, if◌then◌else◌}
+use Rattle.std.specs.Prelude.{◌≡◌, Bool, ◌==◌, nat_le, nat_lt, ℕ, zero, suc, ◌+◌, ◌*◌, List, [], ◌∷◌, ◌++◌, length, map, take, drop, Option, Some, None, slice_index, if◌then◌else◌}
 use Rattle.geom_core.specs.declared.limits.TheConstants.{TRIANGLE_BYTES}
 use Rattle.geom_core.specs.declared.triangles.Tagged.{Tagged}
 use Rattle.geom_core.specs.Limits.{has_grid_corners, has_distinct_corners}
 use Rattle.dag_core.specs.declared.counts.Counts.{Counts}
-use Rattle.dag_core.specs.declared.groups.Group.{Group}
 use Rattle.dag_core.specs.declared.cluster_heads.ClusterHead.{ClusterHead}
 use Rattle.dag_core.specs.declared.heads.Heads.{Heads}
 use Rattle.dag_core.specs.Pages.{tris_on}

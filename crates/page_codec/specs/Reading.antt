@@ -1,5 +1,5 @@
 -- What the bytes of a page, a directory and a header read as.
-use Rattle.std.specs.Prelude.{◌≡◌, ℕ, zero, suc, ◌+◌, ◌*◌, List, [], ◌∷◌, length, map, take, drop, slice_index, slice_range}
+use Rattle.std.specs.Prelude.{ℕ, ◌+◌, ◌*◌, List, [], ◌∷◌, drop, slice_index, slice_range}
 use Rattle.geom_core.specs.declared.limits.TheConstants.{TRIANGLE_BYTES}
 use Rattle.geom_core.specs.declared.triangles.Tagged.{Tagged}
 use Rattle.geom_core.specs.declared.digests.Digest32.{Digest32}

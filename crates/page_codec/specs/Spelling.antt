@@ -1,5 +1,5 @@
 -- What a page, the directory, the header and a whole file spell, byte by byte; and where a page begins.
-use Rattle.std.specs.Prelude.{◌≡◌, ℕ, ◌+◌, ◌-◌, ◌*◌, List, [], ◌∷◌, ◌++◌, length, map, replicate, codes}
+use Rattle.std.specs.Prelude.{ℕ, ◌+◌, ◌-◌, ◌*◌, List, [], ◌∷◌, ◌++◌, length, map, replicate, codes}
 use Rattle.std.specs.List.{flat_map, range_with_len}
 use Rattle.sha2.specs.Sha256.{sha256}
 use Rattle.geom_core.specs.declared.limits.TheConstants.{PAGE_BYTES}

@@ -1,7 +1,7 @@
-use Rattle.std.proofs.Common.{◌≡◌, ◌<◌, ◌≤◌, ◌*◌, List, length, Some, None, refl, sym, ap, ◌∙◌, subst, ℕ, arith}
+use Rattle.std.proofs.Common.{◌<◌, ◌≤◌, ◌*◌, List, length, sym, ap, ◌∙◌, subst, ℕ, arith}
 use Rattle.std.specs.List.{All, sum_by}
 use Rattle.dag_core.specs.Members.{cluster_at}
-use Rattle.dag_core.specs.Pages.{clusters_on, tris_on}
+use Rattle.dag_core.specs.Pages.{tris_on}
 use Rattle.page_codec.specs.declared.pages.PageCluster.{PageCluster}
 use Rattle.page_codec.specs.declared.pages.Page.{Page}
 use Rattle.page_codec.specs.Breaks.{first_of, page_breaks}

@@ -1,4 +1,4 @@
-use Rattle.std.proofs.Common.{◌≡◌, ℕ, ◌-◌, length, take, drop, replicate, ap, ◌∙◌, arith, rules}
+use Rattle.std.proofs.Common.{◌≡◌, ℕ, length, replicate, ap, ◌∙◌, arith, rules}
 use Rattle.std.proofs.lemmas.List.{length-drop, length-take}
 use Rattle.page_codec.specs.Spelling.{clusters_bytes, tail_bytes, page_bytes, page_in}
 use Rattle.page_codec.proofs.PageBytes.{page-filled}

@@ -1,6 +1,5 @@
-use Rattle.std.proofs.Common.{◌≡◌, ◌+◌, ◌-◌, ◌*◌, ◌<◌, ◌≤◌, ◌++◌, length, take, get_or, sym, ap, ◌∙◌, arith}
+use Rattle.std.proofs.Common.{◌≡◌, ◌+◌, ◌-◌, ◌<◌, ◌≤◌, ◌++◌, length, take, sym, ap, ◌∙◌, arith}
 use Rattle.std.proofs.lemmas.List.{append-nil}
-use Rattle.geom_core.specs.declared.triangles.Tagged.{Tagged}
 use Rattle.page_codec.specs.Spelling.{cluster_bytes}
 use Rattle.page_codec.proofs.ClusterBytes.{length-triangle_bytes, length-cluster_bytes, cluster_bytes-more, written-more, length-put_mid}
 use Rattle.page_codec.proofs.encode_pages.write_cluster.Goals as goal

@@ -1,4 +1,4 @@
-use Rattle.std.proofs.Common.{◌≡◌, length, arith, refl, sym, ap, ◌∙◌}
+use Rattle.std.proofs.Common.{length}
 use Rattle.page_codec.specs.Numbers.{numbers_of}
 use Rattle.page_codec.proofs.NumberLists.{numbers_of-read}
 use Rattle.page_codec.proofs.numbers.read_numbers.Goals as goal

@@ -1,4 +1,4 @@
-use Rattle.std.proofs.Common.{get_or, arith}
+use Rattle.std.proofs.Common.{arith}
 use Rattle.dag_core.specs.Members.{cluster_at}
 use Rattle.page_codec.proofs.Sums.{sum-next}
 use Rattle.page_codec.proofs.page_clusters.count_tris.Goals as goal

@@ -1,4 +1,4 @@
-use Rattle.std.proofs.Common.{◌≡◌, ◌<◌, ◌-◌, ◌*◌, ◌+◌, take, drop, ap, ◌∙◌, arith}
+use Rattle.std.proofs.Common.{◌<◌, take, drop, ap, ◌∙◌, arith}
 use Rattle.page_codec.proofs.RecordLists.{left-more, breaks_in-step, none-first}
 use Rattle.page_codec.proofs.record_rules.first_break.Goals as goal
 

@@ -1,4 +1,4 @@
-use Rattle.std.proofs.Common.{◌≡◌, ◌<◌, ◌-◌, ◌*◌, ◌+◌, take, drop, ap, ◌∙◌, arith}
+use Rattle.std.proofs.Common.{◌<◌, take, drop, ap, ◌∙◌, arith}
 use Rattle.page_codec.proofs.RecordLists.{left-more, records-step}
 use Rattle.page_codec.proofs.tables.read_records.Goals as goal
 
