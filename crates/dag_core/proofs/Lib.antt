@@ -12,3 +12,5 @@ pub mod CheckLaws
 pub mod RangeTestLaws
 pub mod TwoSquaresLaws
 pub mod SumLaws
+pub mod PageSetLaws
+pub mod CutExamples

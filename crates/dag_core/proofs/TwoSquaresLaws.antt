@@ -31,7 +31,7 @@ none_before test n none place below = at (test place) refl
     at true passes = absurd (false≢true (sym none ∙ range_any test n place below passes))
     at false fails = fails
 
-none_from_search : (test : ℕ → Bool) (n : ℕ) → list_any test (range_with_len 0 n) ≡ false → ((place : ℕ) → n ≤ place → test place ≡ false) → (place : ℕ) → test place ≡ false
+pub none_from_search : (test : ℕ → Bool) (n : ℕ) → list_any test (range_with_len 0 n) ≡ false → ((place : ℕ) → n ≤ place → test place ≡ false) → (place : ℕ) → test place ≡ false
 none_from_search test n none after = none_at_all test n (none_before test n none) after
 
 pick : (b x y : Bool) → x ≡ false → y ≡ false → cond b x y ≡ false
