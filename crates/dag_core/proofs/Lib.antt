@@ -12,5 +12,6 @@ pub mod CheckLaws
 pub mod RangeTestLaws
 pub mod TwoSquaresLaws
 pub mod SumLaws
+pub mod OpenLaws
 pub mod PageSetLaws
 pub mod CutExamples
