@@ -14,4 +14,5 @@ pub mod TwoSquaresLaws
 pub mod SumLaws
 pub mod OpenLaws
 pub mod PageSetLaws
+pub mod PathLaws
 pub mod CutExamples

@@ -1,6 +1,6 @@
 -- The cut of a DAG: the clusters that are drawn through a lens while these pages are resident.
-use Rattle.std.specs.Prelude.{◌≡◌, Bool, true, false, not, ◌&&◌, ◌||◌, ℕ, ◌+◌, ◌<◌, List, [], ◌∷◌, length, map, filter, flat_map, Option, Some, None, IsTrue, slice_index}
-use Rattle.std.specs.List.{enumerate_from}
+use Rattle.std.specs.Prelude.{◌≡◌, Bool, true, false, not, ◌&&◌, ◌||◌, ◌==◌, ℕ, ◌+◌, ◌<◌, List, [], ◌∷◌, length, map, filter, flat_map, Option, Some, None, IsTrue, slice_index}
+use Rattle.std.specs.List.{enumerate_from, list_any}
 use Rattle.geom_core.specs.declared.triangles.Tri.{Tri}
 use Rattle.geom_core.specs.declared.views.Lens.{Lens}
 use Rattle.geom_core.specs.Picture.{Item}
@@ -46,3 +46,14 @@ pub record IsPath (heads : Heads) (path : List ℕ) : Type 0 where
   pub made : (k : ℕ) → k + 1 < length path →
       (cluster_at heads (slice_index path (k + 1))).made ≡ Some (home heads (slice_index path k))
   pub end : (k : ℕ) → k + 1 ≡ length path → IsTrue (group_at heads (home heads (slice_index path k))).terminal
+
+-- the list has this cluster
+abbrev pub has_cluster : List ℕ → ℕ → Bool
+has_cluster clusters c = list_any (λ d. d == c) clusters
+
+-- exactly one cluster of the path is in the cut
+pub record MeetsOnce (cut path : List ℕ) : Type 0 where
+  pub place : ℕ
+  pub within : place < length path
+  pub there : IsTrue (has_cluster cut (slice_index path place))
+  pub only : (k : ℕ) → k < length path → IsTrue (has_cluster cut (slice_index path k)) → k ≡ place
