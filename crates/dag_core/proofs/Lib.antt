@@ -13,6 +13,7 @@ pub mod RangeTestLaws
 pub mod TwoSquaresLaws
 pub mod SumLaws
 pub mod OpenLaws
+pub mod NeedLaws
 pub mod PageSetLaws
 pub mod PathLaws
 pub mod CutExamples
