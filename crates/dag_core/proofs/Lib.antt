@@ -7,6 +7,8 @@ pub mod RuleLaws
 pub mod ListSteps
 pub mod TableLaws
 pub mod UpperLaws
+pub mod WeightSums
+pub mod CutSums
 pub mod HalvingLaws
 pub mod CheckLaws
 pub mod RangeTestLaws
