@@ -5,7 +5,8 @@ use Rattle.std.specs.List.{range_with_len}
 use Rattle.std.proofs.lemmas.Int.{ints}
 use Rattle.std.proofs.lemmas.Bool.{true≢false}
 use Rattle.std.proofs.lemmas.Bool.Decides.{nat_tests}
-use Rattle.std.proofs.lemmas.List.FromFn.{map-range_with_len_more}
+use Rattle.std.proofs.lemmas.List.Elements.{All-from_get_or, All-head, All-tail}
+use Rattle.std.proofs.lemmas.List.FromFn.{get_or-range_with_len, length-range_with_len, map-range_with_len_more}
 use Rattle.dag_core.specs.declared.heads.Heads.{Heads}
 use Rattle.dag_core.specs.Members.{all_clusters, cluster_at, group_at, home, is_made_by, is_maker, made_by, members}
 use Rattle.dag_core.specs.Ranges.{IsInRange}
@@ -150,3 +151,92 @@ makers_of_one heads open_group weight c clusters (Some m) is below =
   weighed : (b : Bool) (xs : List ℕ) → weigh weight (cond b (c ∷ xs) xs) ≡ cond b (weight c +ℤ weigh weight xs) (weigh weight xs)
   weighed true xs = refl
   weighed false xs = refl
+
+makers_of : (heads : Heads) (open_group : ℕ → Bool) (weight : ℕ → ℤ) (clusters : List ℕ) → IsInRange heads →
+    All (λ c. c < length heads.clusters) clusters →
+    weigh (made_weight heads open_group weight clusters) (range_with_len 0 (length heads.groups))
+    ≡ weigh (λ c. if_so (is_made_open open_group (cluster_at heads c).made) (weight c)) clusters
+makers_of heads open_group weight [] range below =
+    weigh-alike (made_weight heads open_group weight []) (λ g. pos 0) (length heads.groups) (λ g within. nothing (open_group g))
+    ∙ weigh-nothing (range_with_len 0 (length heads.groups)) where
+  nothing : (b : Bool) → if_so b (pos 0) ≡ pos 0
+  nothing true = refl
+  nothing false = refl
+makers_of heads open_group weight (c ∷ clusters) range below =
+    let here = All-head (λ c. c < length heads.clusters) c clusters below in
+    makers_of_one heads open_group weight c clusters (cluster_at heads c).made refl (λ m made. maker_below heads c m range here made)
+    ∙ ap (λ w. if_so (is_made_open open_group (cluster_at heads c).made) (weight c) +ℤ w)
+    (makers_of heads open_group weight clusters range (All-tail (λ c. c < length heads.clusters) c clusters below))
+
+-- ---- together
+
+-- what the cut's weight follows from
+pub record Opens (heads : Heads) (open_group : ℕ → Bool) (weight : ℕ → ℤ) : Type 0 where
+  pub home : (c : ℕ) → c < length heads.clusters → is_made_open open_group (cluster_at heads c).made ≡ true →
+      open_group (home heads c) ≡ true
+  pub terminal : (g : ℕ) → g < length heads.groups → (group_at heads g).terminal ≡ true → open_group g ≡ true
+  pub same : (g : ℕ) → g < length heads.groups → (group_at heads g).terminal ≡ false →
+      weigh weight (members heads g) ≡ weigh weight (made_by heads g)
+  pub none : (g : ℕ) → g < length heads.groups → (group_at heads g).terminal ≡ true → weigh weight (made_by heads g) ≡ pos 0
+
+cut_or_made : (at_home by_maker : Bool) (w : ℤ) → (by_maker ≡ true → at_home ≡ true) →
+    if_so (at_home && not by_maker) w +ℤ if_so by_maker w ≡ if_so at_home w
+cut_or_made true true w implied = omega (arith, ints)
+cut_or_made true false w implied = omega (arith, ints)
+cut_or_made false true w implied = absurd (true≢false (sym (implied refl)))
+cut_or_made false false w implied = omega (arith, ints)
+
+terminal_or_made : (terminal opened : Bool) (members made : ℤ) → (terminal ≡ true → opened ≡ true) →
+    (terminal ≡ false → members ≡ made) → (terminal ≡ true → made ≡ pos 0) →
+    if_so opened members ≡ if_so terminal members +ℤ if_so opened made
+terminal_or_made true true members made opens same none = let nothing = none refl in omega (arith, ints)
+terminal_or_made true false members made opens same none = absurd (true≢false (sym (opens refl)))
+terminal_or_made false true members made opens same none = let alike = same refl in omega (arith, ints)
+terminal_or_made false false members made opens same none = omega (arith, ints)
+
+cancelled : (cut made terminal : ℤ) → cut +ℤ made ≡ terminal +ℤ made → cut ≡ terminal
+cancelled cut made terminal same = omega (arith, ints)
+
+all_below : (n : ℕ) → All (λ c. c < n) (range_with_len 0 n)
+all_below n =
+    All-from_get_or (λ c. c < n) (range_with_len 0 n) 0
+    (λ i within.
+      let below : i < n = subst (λ m. i < m) (length-range_with_len 0 n) within in
+      subst (λ c. c < n) (sym (get_or-range_with_len 0 n i 0 below)) (plus_none n i below)) where
+  plus_none : (n i : ℕ) → i < n → 0 + i < n
+  plus_none n i below = omega arith
+
+-- the members of terminal groups
+abbrev pub terminal_weight : Heads → (ℕ → ℤ) → ℤ
+terminal_weight heads weight =
+    weigh (λ g. if_so (group_at heads g).terminal (weigh weight (members heads g))) (range_with_len 0 (length heads.groups))
+
+pub cut_weight : (heads : Heads) (open_group : ℕ → Bool) (weight : ℕ → ℤ) → IsInRange heads → AreMembersInTurn heads →
+    Opens heads open_group weight →
+    weigh weight (filter (is_cut heads open_group) (all_clusters heads)) ≡ terminal_weight heads weight
+cut_weight heads open_group weight range turn opens =
+    let n : ℕ = length heads.clusters in
+    let groups : ℕ = length heads.groups in
+    let cut : ℕ → ℤ = λ c. if_so (is_cut heads open_group c) (weight c) in
+    let made : ℕ → ℤ = λ c. if_so (is_made_open open_group (cluster_at heads c).made) (weight c) in
+    let at_home : ℕ → ℤ = λ c. if_so (open_group (home heads c)) (weight c) in
+    let terminal : ℕ → ℤ = λ g. if_so (group_at heads g).terminal (weigh weight (members heads g)) in
+    let both : weigh cut (range_with_len 0 n) +ℤ weigh made (range_with_len 0 n) ≡ weigh at_home (range_with_len 0 n) =
+        sym (weigh-plus cut made (range_with_len 0 n))
+        ∙ weigh-alike (λ c. cut c +ℤ made c) at_home n
+        (λ c below. cut_or_made (open_group (home heads c)) (is_made_open open_group (cluster_at heads c).made) (weight c) (opens.home c below)) in
+    let homes : weigh at_home (range_with_len 0 n)
+        ≡ weigh (λ g. if_so (open_group g) (weigh weight (members heads g))) (range_with_len 0 groups) =
+        ap (λ k. weigh at_home (range_with_len 0 k)) (sym (members_are_all heads turn))
+        ∙ by_homes heads open_group weight groups turn (omega arith) in
+    let groups_alike : weigh (λ g. if_so (open_group g) (weigh weight (members heads g))) (range_with_len 0 groups)
+        ≡ weigh terminal (range_with_len 0 groups) +ℤ weigh (made_weight heads open_group weight (all_clusters heads)) (range_with_len 0 groups) =
+        weigh-alike (λ g. if_so (open_group g) (weigh weight (members heads g)))
+        (λ g. terminal g +ℤ made_weight heads open_group weight (all_clusters heads) g) groups
+        (λ g below. terminal_or_made (group_at heads g).terminal (open_group g) (weigh weight (members heads g)) (weigh weight (made_by heads g))
+        (opens.terminal g below) (opens.same g below) (opens.none g below))
+        ∙ weigh-plus terminal (made_weight heads open_group weight (all_clusters heads)) (range_with_len 0 groups) in
+    let makers = makers_of heads open_group weight (all_clusters heads) range (all_below n) in
+    weigh-filter weight (is_cut heads open_group) (all_clusters heads)
+    ∙ cancelled (weigh cut (range_with_len 0 n)) (weigh made (range_with_len 0 n)) (weigh terminal (range_with_len 0 groups))
+    (both ∙ (homes ∙ (groups_alike ∙ ap (λ w. weigh terminal (range_with_len 0 groups) +ℤ w) makers)))
