@@ -13,6 +13,7 @@ pub mod HalvingLaws
 pub mod CheckLaws
 pub mod RangeTestLaws
 pub mod TwoSquaresLaws
+pub mod SourceLaws
 pub mod SumLaws
 pub mod OpenLaws
 pub mod NeedLaws
