@@ -9,6 +9,7 @@ pub mod TableLaws
 pub mod UpperLaws
 pub mod WeightSums
 pub mod CutSums
+pub mod CutEdgeLaws
 pub mod HalvingLaws
 pub mod CheckLaws
 pub mod RangeTestLaws
