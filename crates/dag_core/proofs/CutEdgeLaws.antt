@@ -1,7 +1,7 @@
 -- The cuts of a sound DAG over closed sets of pages have the edge sums of the source mesh.
-use Rattle.std.proofs.Common.{◌≡◌, ◌==◌, ◌<◌, ◌≤◌, ◌+◌, ◌∙◌, ◌++◌, ◌∷◌, [], ap, sym, refl, subst, filter, map, flat_map, inl, inr, ℕ, zero, suc, ℤ, pos, ◌+ℤ◌, Bool, true, false, not, ◌&&◌, ◌||◌, List, length, nat_lt, Option, None, Some, is_none, All, IsTrue, arith, cond, get_or, slice_index_or}
-use Rattle.std.specs.List.{enumerate_from, list_any, range_with_len}
-use Rattle.std.proofs.lemmas.Bool.{cases_lt, false_from_ne_true, not-false, true≢false}
+use Rattle.std.proofs.Common.{◌≡◌, ◌<◌, ◌+◌, ◌∙◌, ◌++◌, ◌∷◌, [], ap, sym, refl, subst, filter, map, flat_map, inl, inr, ℕ, ℤ, pos, Bool, true, false, not, ◌&&◌, List, length, nat_lt, Option, None, Some, is_none, All, arith, cond, slice_index_or}
+use Rattle.std.specs.List.{enumerate_from}
+use Rattle.std.proofs.lemmas.Bool.{cases_lt, false_from_ne_true, true≢false}
 use Rattle.std.proofs.lemmas.Bool.Decides.{nat_tests}
 use Rattle.std.proofs.lemmas.List.{get_or_past, map-append}
 use Rattle.std.proofs.lemmas.List.Elements.{All-append, All-cons, All-get_or, All-head, All-nil, All-tail}
@@ -22,7 +22,7 @@ use Rattle.dag_core.specs.Ranges.{IsInRange}
 use Rattle.dag_core.specs.Rules.{Checked, has_made}
 use Rattle.dag_core.specs.TriangleRules.{IsSourcedTriangle, Sound, breaks_sums, have_same_sums}
 use Rattle.dag_core.specs.Triangles.{leaf_tris, leaves, source_of, tris_at, tris_in}
-use Rattle.dag_core.proofs.CutSums.{Opens, cut_weight, is_cut, is_made_open, terminal_weight}
+use Rattle.dag_core.proofs.CutSums.{cut_weight, is_cut, is_made_open, terminal_weight}
 use Rattle.dag_core.proofs.MemberLaws.{in_turn}
 use Rattle.dag_core.proofs.NeedLaws.{filter_alike}
 use Rattle.dag_core.proofs.OpenLaws.{home_is_open, terminal_is_open}
@@ -162,7 +162,7 @@ leaf_sum dag u v sound =
 
 -- ---- sources
 
-all_at : (P : Tagged → Type 0) (lists : List (List Tagged)) (c : ℕ) → All (All P) lists → All P (slice_index_or lists c [])
+pub all_at : (P : Tagged → Type 0) (lists : List (List Tagged)) (c : ℕ) → All (All P) lists → All P (slice_index_or lists c [])
 all_at P lists c all =
     elim (cases_lt c (length lists)) [
       | inl below ↦ All-get_or (All P) lists c [] below all

@@ -1,6 +1,6 @@
 -- The weight of a cut: whatever groups are open, as long as terminal ones are, and the homes of clusters whose makers are,
 -- it is that of the members of the terminal groups.
-use Rattle.std.proofs.Common.{◌≡◌, ◌==◌, ◌<◌, ◌≤◌, ◌+◌, ◌∙◌, ◌++◌, ◌∷◌, [], ap, sym, refl, subst, filter, map, ℕ, zero, suc, ℤ, pos, ◌+ℤ◌, ◌-ℤ◌, Bool, true, false, not, ◌&&◌, List, length, Option, None, Some, All, arith, cond}
+use Rattle.std.proofs.Common.{◌≡◌, ◌==◌, ◌<◌, ◌≤◌, ◌+◌, ◌∙◌, ◌++◌, ◌∷◌, [], ap, sym, refl, subst, filter, map, ℕ, zero, suc, ℤ, pos, ◌+ℤ◌, Bool, true, false, not, ◌&&◌, List, length, Option, None, Some, All, arith, cond}
 use Rattle.std.specs.List.{range_with_len}
 use Rattle.std.proofs.lemmas.Int.{ints}
 use Rattle.std.proofs.lemmas.Bool.{true≢false}
@@ -11,7 +11,7 @@ use Rattle.dag_core.specs.declared.heads.Heads.{Heads}
 use Rattle.dag_core.specs.Members.{all_clusters, cluster_at, group_at, home, is_made_by, is_maker, made_by, members}
 use Rattle.dag_core.specs.Ranges.{IsInRange}
 use Rattle.dag_core.specs.Rules.{members_before}
-use Rattle.dag_core.proofs.MemberLaws.{AreMembersInTurn, first_is, home_is, members_are_all, members_more, members_none, members_rise_to}
+use Rattle.dag_core.proofs.MemberLaws.{AreMembersInTurn, first_is, home_is, members_are_all, members_more, members_none}
 use Rattle.dag_core.proofs.RangeLaws.{maker_below}
 use Rattle.dag_core.proofs.WeightSums.{if_so, weigh, weigh-alike, weigh-append, weigh-filter, weigh-if_so, weigh-more, weigh-nothing, weigh-one, weigh-plus}
 
@@ -30,9 +30,9 @@ one_later : (a n : ℕ) → range_with_len a (n + 1) ≡ range_with_len a n ++ (
 one_later a n =
     sym (map-same (range_with_len a (n + 1))) ∙ (map-range_with_len_more (λ k. k) a n (a + n) refl
     ∙ ap (λ xs. xs ++ (a + n) ∷ []) (map-same (range_with_len a n))) where
-  map-same : (xs : List ℕ) → map (λ k. k) xs ≡ xs
-  map-same [] = refl
-  map-same (x ∷ xs) = ap (λ ys. x ∷ ys) (map-same xs)
+      map-same : (xs : List ℕ) → map (λ k. k) xs ≡ xs
+      map-same [] = refl
+      map-same (x ∷ xs) = ap (λ ys. x ∷ ys) (map-same xs)
 
 last_weight : (a w : ℤ) → a +ℤ (w +ℤ pos 0) ≡ a +ℤ w
 last_weight a w = omega (arith, ints)
@@ -107,15 +107,15 @@ made_alone : (m g : ℕ) (open_group : ℕ → Bool) (w a : ℤ) (same : Bool) �
 made_alone m g open_group w a true is =
     ap (λ k. if_so (open_group k) (w +ℤ a)) (sym (number m g is))
     ∙ (both (open_group m) ∙ ap (λ k. if_so (open_group m) w +ℤ if_so (open_group k) a) (number m g is)) where
-  number : (m g : ℕ) → (m == g) ≡ true → m ≡ g
-  number m g is = grind (arith, nat_tests)
+      number : (m g : ℕ) → (m == g) ≡ true → m ≡ g
+      number m g is = grind (arith, nat_tests)
 
-  nothing : pos 0 ≡ pos 0 +ℤ pos 0
-  nothing = omega (arith, ints)
+      nothing : pos 0 ≡ pos 0 +ℤ pos 0
+      nothing = omega (arith, ints)
 
-  both : (b : Bool) → if_so b (w +ℤ a) ≡ if_so b w +ℤ if_so b a
-  both true = refl
-  both false = nothing
+      both : (b : Bool) → if_so b (w +ℤ a) ≡ if_so b w +ℤ if_so b a
+      both true = refl
+      both false = nothing
 made_alone m g open_group w a false is = nothing_before (if_so (open_group g) a) where
   nothing_before : (b : ℤ) → b ≡ pos 0 +ℤ b
   nothing_before b = omega (arith, ints)
@@ -128,29 +128,29 @@ makers_of_one : (heads : Heads) (open_group : ℕ → Bool) (weight : ℕ → �
     (cluster_at heads c).made ≡ made → ((m : ℕ) → made ≡ Some m → m < length heads.groups) →
     weigh (made_weight heads open_group weight (c ∷ clusters)) (range_with_len 0 (length heads.groups))
     ≡ if_so (is_made_open open_group made) (weight c)
-      +ℤ weigh (made_weight heads open_group weight clusters) (range_with_len 0 (length heads.groups))
+    +ℤ weigh (made_weight heads open_group weight clusters) (range_with_len 0 (length heads.groups))
 makers_of_one heads open_group weight c clusters None is below =
     weigh-alike (made_weight heads open_group weight (c ∷ clusters)) (made_weight heads open_group weight clusters) (length heads.groups)
     (λ g within. ap (λ made. if_so (open_group g) (weigh weight (cond (is_maker g made) (c ∷ filter (λ d. is_made_by g (cluster_at heads d)) clusters)
     (filter (λ d. is_made_by g (cluster_at heads d)) clusters)))) is)
     ∙ before (weigh (made_weight heads open_group weight clusters) (range_with_len 0 (length heads.groups))) where
-  before : (b : ℤ) → b ≡ pos 0 +ℤ b
-  before b = omega (arith, ints)
+      before : (b : ℤ) → b ≡ pos 0 +ℤ b
+      before b = omega (arith, ints)
 makers_of_one heads open_group weight c clusters (Some m) is below =
     weigh-alike (made_weight heads open_group weight (c ∷ clusters))
     (λ g. if_so (m == g) (if_so (open_group m) (weight c)) +ℤ made_weight heads open_group weight clusters g) (length heads.groups)
     (λ g within.
-      ap (λ made. if_so (open_group g) (weigh weight (cond (is_maker g made) (c ∷ filter (λ d. is_made_by g (cluster_at heads d)) clusters)
-      (filter (λ d. is_made_by g (cluster_at heads d)) clusters)))) is
-      ∙ (ap (if_so (open_group g)) (weighed (m == g) (filter (λ d. is_made_by g (cluster_at heads d)) clusters))
-      ∙ made_alone m g open_group (weight c) (weigh weight (filter (λ d. is_made_by g (cluster_at heads d)) clusters)) (m == g) refl))
+    ap (λ made. if_so (open_group g) (weigh weight (cond (is_maker g made) (c ∷ filter (λ d. is_made_by g (cluster_at heads d)) clusters)
+    (filter (λ d. is_made_by g (cluster_at heads d)) clusters)))) is
+    ∙ (ap (if_so (open_group g)) (weighed (m == g) (filter (λ d. is_made_by g (cluster_at heads d)) clusters))
+    ∙ made_alone m g open_group (weight c) (weigh weight (filter (λ d. is_made_by g (cluster_at heads d)) clusters)) (m == g) refl))
     ∙ (weigh-plus (λ g. if_so (m == g) (if_so (open_group m) (weight c))) (made_weight heads open_group weight clusters)
     (range_with_len 0 (length heads.groups))
     ∙ ap (λ w. w +ℤ weigh (made_weight heads open_group weight clusters) (range_with_len 0 (length heads.groups)))
     (weigh-one m (length heads.groups) (if_so (open_group m) (weight c)) (below m refl))) where
-  weighed : (b : Bool) (xs : List ℕ) → weigh weight (cond b (c ∷ xs) xs) ≡ cond b (weight c +ℤ weigh weight xs) (weigh weight xs)
-  weighed true xs = refl
-  weighed false xs = refl
+      weighed : (b : Bool) (xs : List ℕ) → weigh weight (cond b (c ∷ xs) xs) ≡ cond b (weight c +ℤ weigh weight xs) (weigh weight xs)
+      weighed true xs = refl
+      weighed false xs = refl
 
 makers_of : (heads : Heads) (open_group : ℕ → Bool) (weight : ℕ → ℤ) (clusters : List ℕ) → IsInRange heads →
     All (λ c. c < length heads.clusters) clusters →
@@ -159,9 +159,9 @@ makers_of : (heads : Heads) (open_group : ℕ → Bool) (weight : ℕ → ℤ) (
 makers_of heads open_group weight [] range below =
     weigh-alike (made_weight heads open_group weight []) (λ g. pos 0) (length heads.groups) (λ g within. nothing (open_group g))
     ∙ weigh-nothing (range_with_len 0 (length heads.groups)) where
-  nothing : (b : Bool) → if_so b (pos 0) ≡ pos 0
-  nothing true = refl
-  nothing false = refl
+      nothing : (b : Bool) → if_so b (pos 0) ≡ pos 0
+      nothing true = refl
+      nothing false = refl
 makers_of heads open_group weight (c ∷ clusters) range below =
     let here = All-head (λ c. c < length heads.clusters) c clusters below in
     makers_of_one heads open_group weight c clusters (cluster_at heads c).made refl (λ m made. maker_below heads c m range here made)
@@ -201,10 +201,10 @@ all_below : (n : ℕ) → All (λ c. c < n) (range_with_len 0 n)
 all_below n =
     All-from_get_or (λ c. c < n) (range_with_len 0 n) 0
     (λ i within.
-      let below : i < n = subst (λ m. i < m) (length-range_with_len 0 n) within in
-      subst (λ c. c < n) (sym (get_or-range_with_len 0 n i 0 below)) (plus_none n i below)) where
-  plus_none : (n i : ℕ) → i < n → 0 + i < n
-  plus_none n i below = omega arith
+    let below : i < n = subst (λ m. i < m) (length-range_with_len 0 n) within in
+    subst (λ c. c < n) (sym (get_or-range_with_len 0 n i 0 below)) (plus_none n i below)) where
+      plus_none : (n i : ℕ) → i < n → 0 + i < n
+      plus_none n i below = omega arith
 
 -- the members of terminal groups
 abbrev pub terminal_weight : Heads → (ℕ → ℤ) → ℤ
@@ -222,20 +222,20 @@ cut_weight heads open_group weight range turn opens =
     let at_home : ℕ → ℤ = λ c. if_so (open_group (home heads c)) (weight c) in
     let terminal : ℕ → ℤ = λ g. if_so (group_at heads g).terminal (weigh weight (members heads g)) in
     let both : weigh cut (range_with_len 0 n) +ℤ weigh made (range_with_len 0 n) ≡ weigh at_home (range_with_len 0 n) =
-        sym (weigh-plus cut made (range_with_len 0 n))
-        ∙ weigh-alike (λ c. cut c +ℤ made c) at_home n
-        (λ c below. cut_or_made (open_group (home heads c)) (is_made_open open_group (cluster_at heads c).made) (weight c) (opens.home c below)) in
+    sym (weigh-plus cut made (range_with_len 0 n))
+    ∙ weigh-alike (λ c. cut c +ℤ made c) at_home n
+    (λ c below. cut_or_made (open_group (home heads c)) (is_made_open open_group (cluster_at heads c).made) (weight c) (opens.home c below)) in
     let homes : weigh at_home (range_with_len 0 n)
-        ≡ weigh (λ g. if_so (open_group g) (weigh weight (members heads g))) (range_with_len 0 groups) =
-        ap (λ k. weigh at_home (range_with_len 0 k)) (sym (members_are_all heads turn))
-        ∙ by_homes heads open_group weight groups turn (omega arith) in
+    ≡ weigh (λ g. if_so (open_group g) (weigh weight (members heads g))) (range_with_len 0 groups) =
+    ap (λ k. weigh at_home (range_with_len 0 k)) (sym (members_are_all heads turn))
+    ∙ by_homes heads open_group weight groups turn (omega arith) in
     let groups_alike : weigh (λ g. if_so (open_group g) (weigh weight (members heads g))) (range_with_len 0 groups)
-        ≡ weigh terminal (range_with_len 0 groups) +ℤ weigh (made_weight heads open_group weight (all_clusters heads)) (range_with_len 0 groups) =
-        weigh-alike (λ g. if_so (open_group g) (weigh weight (members heads g)))
-        (λ g. terminal g +ℤ made_weight heads open_group weight (all_clusters heads) g) groups
-        (λ g below. terminal_or_made (group_at heads g).terminal (open_group g) (weigh weight (members heads g)) (weigh weight (made_by heads g))
-        (opens.terminal g below) (opens.same g below) (opens.none g below))
-        ∙ weigh-plus terminal (made_weight heads open_group weight (all_clusters heads)) (range_with_len 0 groups) in
+    ≡ weigh terminal (range_with_len 0 groups) +ℤ weigh (made_weight heads open_group weight (all_clusters heads)) (range_with_len 0 groups) =
+    weigh-alike (λ g. if_so (open_group g) (weigh weight (members heads g)))
+    (λ g. terminal g +ℤ made_weight heads open_group weight (all_clusters heads) g) groups
+    (λ g below. terminal_or_made (group_at heads g).terminal (open_group g) (weigh weight (members heads g)) (weigh weight (made_by heads g))
+    (opens.terminal g below) (opens.same g below) (opens.none g below))
+    ∙ weigh-plus terminal (made_weight heads open_group weight (all_clusters heads)) (range_with_len 0 groups) in
     let makers = makers_of heads open_group weight (all_clusters heads) range (all_below n) in
     weigh-filter weight (is_cut heads open_group) (all_clusters heads)
     ∙ cancelled (weigh cut (range_with_len 0 n)) (weigh made (range_with_len 0 n)) (weigh terminal (range_with_len 0 groups))

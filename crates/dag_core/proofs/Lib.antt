@@ -8,6 +8,7 @@ pub mod ListSteps
 pub mod TableLaws
 pub mod UpperLaws
 pub mod WeightSums
+pub mod CornerLaws
 pub mod CutSums
 pub mod CutEdgeLaws
 pub mod HalvingLaws

@@ -1,5 +1,5 @@
 -- What a lens needs is enough: more pages than these change no cut.
-use Rattle.std.proofs.Common.{◌≡◌, ◌==◌, ◌<◌, ◌≤◌, ◌+◌, ◌∙◌, ◌++◌, ◌∷◌, [], ap, sym, refl, subst, filter, ℕ, zero, suc, Bool, true, false, not, ◌&&◌, ◌||◌, List, length, map, Option, None, Some, IsTrue, arith, cond}
+use Rattle.std.proofs.Common.{◌≡◌, ◌==◌, ◌<◌, ◌+◌, ◌∙◌, ◌++◌, ◌∷◌, [], ap, sym, refl, filter, ℕ, zero, suc, Bool, true, false, not, ◌&&◌, ◌||◌, List, length, map, Option, None, Some, arith, cond}
 use Rattle.std.specs.List.{list_any, range_with_len}
 use Rattle.std.proofs.lemmas.Bool.{and_from, false≢true}
 use Rattle.std.proofs.lemmas.Bool.Decides.{nat_tests}
@@ -11,7 +11,7 @@ use Rattle.dag_core.specs.declared.heads.Heads.{Heads}
 use Rattle.dag_core.specs.Coarse.{is_coarse_group}
 use Rattle.dag_core.specs.Cuts.{cut_of, is_in_cut, is_maker_open, is_open}
 use Rattle.dag_core.specs.Members.{cluster_at, group_at, home, no_group}
-use Rattle.dag_core.specs.PageSets.{AreIn, IsClosed, IsNeed, coarse_pages, has_page}
+use Rattle.dag_core.specs.PageSets.{AreIn, IsNeed, coarse_pages, has_page}
 use Rattle.dag_core.specs.Ranges.{IsInRange}
 use Rattle.dag_core.specs.Rules.{Checked}
 use Rattle.dag_core.proofs.ListSteps.{list_any-filter, range_more}
@@ -34,7 +34,7 @@ filter_alike test other zero same = refl
 filter_alike test other (suc n) same =
     let next : suc n ≡ n + 1 = omega arith in
     let more : range_with_len 0 (suc n) ≡ range_with_len 0 n ++ n ∷ [] =
-        ap (range_with_len 0) next ∙ range_more n in
+    ap (range_with_len 0) next ∙ range_more n in
     ap (filter test) more
     ∙ (filter-append test (range_with_len 0 n) (n ∷ [])
     ∙ (ap (λ xs. xs ++ filter test (n ∷ [])) (filter_alike test other n (λ c below. same c (omega arith)))

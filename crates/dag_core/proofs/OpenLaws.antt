@@ -1,9 +1,9 @@
 -- Which groups are open: a greater error in a wider box stays coarse, terminal groups are open over closed sets of pages,
 -- and so is the home of a cluster whose maker is open.
 use Rattle.std.proofs.Common.{◌≡◌, ◌==◌, ◌<◌, ◌≤◌, ◌*◌, ◌∙◌, ap, sym, refl, subst, inl, inr, ℕ, Bool, true, false, not, ◌&&◌, ◌||◌, ◌⊎◌, List, length, max, Some, nat_lt, nat_le, IsTrue, arith, cond}
-use Rattle.std.specs.List.{list_any, range_with_len}
+use Rattle.std.specs.List.{list_any}
 use Rattle.std.proofs.Math.Nat.{mul-le-mul_left, mul-le-mul_right}
-use Rattle.std.proofs.lemmas.Bool.{and_parts, and_from, cases_lt}
+use Rattle.std.proofs.lemmas.Bool.{and_parts, and_from}
 use Rattle.std.proofs.lemmas.List.Folds.{list_any_at}
 use Rattle.std.proofs.lemmas.List.Elements.{All-get_or}
 use Rattle.std.proofs.lemmas.Bool.Decides.{nat_tests}
@@ -20,11 +20,10 @@ use Rattle.dag_core.specs.Coarse.{is_coarse, is_coarse_group}
 use Rattle.dag_core.specs.Cuts.{is_open}
 use Rattle.dag_core.specs.Members.{cluster_at, group_at, home, is_made_by, is_maker, no_cluster, no_group}
 use Rattle.dag_core.specs.PageSets.{IsClosed, has_page}
-use Rattle.dag_core.specs.Pages.{has_terminal_on, is_maker_on, is_upper, page_of_cluster, tris_on, uppers_of}
-use Rattle.dag_core.specs.Ranges.{IsInRange, is_count_to, IsGroupInRange, counts_of, is_group_box}
+use Rattle.dag_core.specs.Pages.{has_terminal_on, is_maker_on, page_of_cluster, tris_on, uppers_of}
+use Rattle.dag_core.specs.Ranges.{IsInRange, is_count_to, IsGroupInRange, counts_of}
 use Rattle.dag_core.specs.Rules.{Checked, has_made, is_maker_outside, is_outgrown}
 use Rattle.dag_core.specs.Internal.Tables.{is_bad_page}
-use Rattle.dag_core.proofs.MemberLaws.{AreMembersInTurn, home_below}
 use Rattle.dag_core.proofs.RangeLaws.{group_bounds, maker_below}
 use Rattle.dag_core.proofs.RuleLaws.{bound_at, page_at, terminal_at}
 use Rattle.dag_core.proofs.UpperLaws.{upper_from}
@@ -49,7 +48,7 @@ pub coarse_grows : (error greater : ℕ) (box wider : Cube) (lens : Lens) → er
 unfolding is_coarse
 coarse_grows error greater box wider lens le corners holds coarse =
     let near : box_distance wider lens.eye ≤ box_distance box lens.eye =
-        box_distance-wider wider box lens.eye (Under-from box.lo box.hi corners) (Holds-from wider box holds) in
+    box_distance-wider wider box lens.eye (Under-from box.lo box.hi corners) (Holds-from wider box holds) in
     let left = wider_product lens.tolerance (box_distance wider lens.eye) (box_distance box lens.eye) near in
     let right = greater_product error greater lens.focal le in
     let below = below_test (lens.tolerance * max 1 (box_distance box lens.eye)) (error * lens.focal * SUBPIXELS) coarse in
@@ -201,12 +200,12 @@ pub home_is_open : (heads : Heads) (lens : Lens) (resident : List ℕ) (c m : �
 home_is_open heads lens resident c m range checked closed below made is =
     let parts = open_parts heads lens resident m is in
     let coarse = or_second (group_at heads m).terminal (is_coarse_group lens (group_at heads m)) parts.1
-        (maker_goes_on heads c m range checked below made) in
+    (maker_goes_on heads c m range checked below made) in
     let bounds = home_bounds heads c m checked below made in
     let maker : Group = group_at heads m in
     let at_home : Group = group_at heads (home heads c) in
     open_from heads lens resident (home heads c)
     (home_page heads resident c m closed below made parts.0)
     (or_by at_home.terminal (is_coarse_group lens at_home) (λ goes_on.
-      coarse_grows maker.error at_home.error maker.cube at_home.cube lens (bounds.error goes_on)
-      (box_corners heads m range (maker_below heads c m range below made)) bounds.holds coarse))
+    coarse_grows maker.error at_home.error maker.cube at_home.cube lens (bounds.error goes_on)
+    (box_corners heads m range (maker_below heads c m range below made)) bounds.holds coarse))

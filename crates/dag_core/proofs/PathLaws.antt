@@ -1,14 +1,14 @@
 -- Each path meets the cut once: up to some place the homes of its clusters are not open, and from there on they are.
-use Rattle.std.proofs.Common.{◌≡◌, ◌==◌, ◌<◌, ◌≤◌, ◌+◌, ◌-◌, ◌∙◌, ◌⊎◌, ap, sym, refl, subst, filter, inl, inr, ℕ, zero, suc, Bool, true, false, not, ◌&&◌, List, length, Option, None, Some, get_or, slice_index, IsTrue, arith}
-use Rattle.std.specs.List.{list_any, range_with_len, position_or_len}
-use Rattle.std.proofs.lemmas.Bool.{and_parts, and_from, cases_lt, not-false}
+use Rattle.std.proofs.Common.{◌≡◌, ◌==◌, ◌<◌, ◌≤◌, ◌+◌, ◌-◌, ◌∙◌, ap, sym, refl, subst, filter, inl, inr, ℕ, zero, suc, Bool, true, false, not, ◌&&◌, List, length, slice_index, arith}
+use Rattle.std.specs.List.{range_with_len, position_or_len}
+use Rattle.std.proofs.lemmas.Bool.{and_parts, and_from, cases_lt}
 use Rattle.std.proofs.lemmas.Bool.Decides.{nat_tests}
 use Rattle.std.proofs.lemmas.List.Sums.{fails_before_first, passes_at_first}
 use Rattle.geom_core.specs.declared.views.Lens.{Lens}
 use Rattle.geom_core.proofs.PointLaws.{true≢false}
 use Rattle.dag_core.specs.declared.heads.Heads.{Heads}
 use Rattle.dag_core.specs.Cuts.{IsPath, MeetsOnce, cut_of, has_cluster, is_in_cut, is_maker_open, is_open}
-use Rattle.dag_core.specs.Members.{cluster_at, group_at, home}
+use Rattle.dag_core.specs.Members.{cluster_at, home}
 use Rattle.dag_core.specs.PageSets.{IsClosed}
 use Rattle.dag_core.specs.Ranges.{IsInRange}
 use Rattle.dag_core.specs.Rules.{Checked}
@@ -35,6 +35,12 @@ from_filter test n c has =
     let found = range_found (λ d. test d && d == c) n (sym (list_any-filter (λ d. d == c) test (range_with_len 0 n)) ∙ has) in
     let both = and_parts (test found.number) (found.number == c) found.passes in
     subst (λ d. test d ≡ true) (is_same found.number c both.1) both.0
+
+pub below_filter : (test : ℕ → Bool) (n c : ℕ) → has_cluster (filter test (range_with_len 0 n)) c ≡ true → c < n
+below_filter test n c has =
+    let found = range_found (λ d. test d && d == c) n (sym (list_any-filter (λ d. d == c) test (range_with_len 0 n)) ∙ has) in
+    let both = and_parts (test found.number) (found.number == c) found.passes in
+    subst (λ d. d < n) (is_same found.number c both.1) found.below
 
 -- ---- along a path
 
@@ -150,7 +156,7 @@ only_first : (heads : Heads) (lens : Lens) (resident path : List ℕ) (k : ℕ) 
 only_first heads lens resident path k walk within is =
     let first : ℕ = first_open heads lens resident path in
     let here : is_home_open heads lens resident (slice_index path first) ≡ true =
-        passes_at_first (is_home_open heads lens resident) path 0 (first_within heads lens resident path walk) in
+    passes_at_first (is_home_open heads lens resident) path 0 (first_within heads lens resident path walk) in
     elim (cases_lt k first) [
       | inl before ↦ absurd (true≢false (sym (cut_parts heads lens resident (slice_index path k) is).0
           ∙ fails_before_first (is_home_open heads lens resident) path k 0 before))

@@ -1,15 +1,14 @@
 -- The source mesh of a DAG: its edge sums are those of the leaves, and its k-th triangle is the leaf triangle with source k.
-use Rattle.std.proofs.Common.{◌≡◌, ◌==◌, ◌<◌, ◌≤◌, ◌+◌, ◌∙◌, ◌++◌, ◌∷◌, [], ap, sym, refl, subst, filter, map, flat_map, ℕ, zero, suc, ℤ, pos, ◌+ℤ◌, ◌-ℤ◌, Bool, true, false, not, ◌&&◌, List, length, Option, None, Some, All, arith, cond, get_or}
+use Rattle.std.proofs.Common.{◌≡◌, ◌==◌, ◌<◌, ◌∙◌, ◌∷◌, [], ap, sym, filter, flat_map, ℕ, ℤ, pos, ◌+ℤ◌, Bool, true, false, List, All, arith, cond}
 use Rattle.std.specs.List.{range_with_len}
 use Rattle.std.proofs.lemmas.Int.{ints}
-use Rattle.std.proofs.lemmas.Bool.Decides.{nat_tests}
 use Rattle.std.proofs.lemmas.List.Elements.{All-head, All-tail}
 use Rattle.geom_core.specs.declared.points.Pt.{Pt}
 use Rattle.geom_core.specs.declared.triangles.Tri.{Tri}
 use Rattle.geom_core.specs.declared.triangles.Tagged.{Tagged}
 use Rattle.geom_core.specs.EdgeSum.{edge_sum}
 use Rattle.geom_core.specs.TaggedLists.{tris_of}
-use Rattle.geom_core.proofs.EdgeSumLaws.{edge_sum-append, edge_sum-first, edge_sum-none}
+use Rattle.geom_core.proofs.EdgeSumLaws.{edge_sum-append, edge_sum-none}
 use Rattle.dag_core.proofs.WeightSums.{if_so, weigh, weigh-alike, weigh-nothing, weigh-one, weigh-plus}
 
 -- the edge sum of a list of lists

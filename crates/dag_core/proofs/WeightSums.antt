@@ -1,5 +1,5 @@
 -- Sums of whole numbers over lists of numbers: of two weights, over what a test keeps, and over members taken in turn.
-use Rattle.std.proofs.Common.{◌≡◌, ◌==◌, ◌<◌, ◌≤◌, ◌+◌, ◌∙◌, ◌++◌, ◌∷◌, [], ap, sym, refl, subst, filter, ℕ, zero, suc, ℤ, pos, ◌+ℤ◌, ◌-ℤ◌, Bool, true, false, List, length, ◌⊎◌, inl, inr, arith, cond}
+use Rattle.std.proofs.Common.{◌≡◌, ◌==◌, ◌<◌, ◌≤◌, ◌+◌, ◌∙◌, ◌++◌, ◌∷◌, [], ap, sym, refl, subst, filter, ℕ, zero, suc, ℤ, pos, ◌+ℤ◌, Bool, true, false, List, ◌⊎◌, inl, inr, arith, cond}
 use Rattle.std.proofs.lemmas.Int.{ints}
 use Rattle.std.specs.List.{range_with_len}
 use Rattle.std.proofs.lemmas.Bool.{cases_lt}
@@ -65,8 +65,8 @@ weigh-if_so weight false xs = weigh-nothing xs
 pub weigh-more : (weight : ℕ → ℤ) (n : ℕ) → weigh weight (range_with_len 0 (n + 1)) ≡ weigh weight (range_with_len 0 n) +ℤ weight n
 weigh-more weight n =
     ap (weigh weight) (range_more n) ∙ (weigh-append weight (range_with_len 0 n) (n ∷ []) ∙ last (weigh weight (range_with_len 0 n)) (weight n)) where
-  last : (a w : ℤ) → a +ℤ (w +ℤ pos 0) ≡ a +ℤ w
-  last a w = omega (arith, ints)
+      last : (a w : ℤ) → a +ℤ (w +ℤ pos 0) ≡ a +ℤ w
+      last a w = omega (arith, ints)
 
 pub weigh-alike : (weight other : ℕ → ℤ) (n : ℕ) → ((k : ℕ) → k < n → weight k ≡ other k) →
     weigh weight (range_with_len 0 n) ≡ weigh other (range_with_len 0 n)
