@@ -29,7 +29,7 @@ use Rattle.dag_core.proofs.TwoSquares.{coarse_square, fine_square, flat_point, l
 use Rattle.dag_core.proofs.TwoSquaresLaws.{checked_from, none_from_search}
 
 -- a lens whose eye is the middle of square 1, with this focal length and tolerance
-abbrev lens_of : ℕ → ℕ → Lens
+abbrev pub lens_of : ℕ → ℕ → Lens
 lens_of focal tolerance = record { eye = flat_point 4 4; focal = focal; tolerance = tolerance }
 
 -- ---- coarse groups

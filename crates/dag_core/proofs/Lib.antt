@@ -22,3 +22,4 @@ pub mod NeedLaws
 pub mod PageSetLaws
 pub mod PathLaws
 pub mod CutExamples
+pub mod CutLawExamples

@@ -34,12 +34,15 @@ pub fn open_passes_to_the_home()
         IsTrue (is_open heads lens resident (home heads c)) }
 {}
 
-/// A law: over a closed set of pages, exactly one cluster of each path is in the cut. Over a set that isn't closed,
-/// a path may meet it twice: `proofs/CutExamples.antt` has one that does.
+/// A law: over a closed set of pages, exactly one cluster of each path is in the cut. Over a set that isn't closed that
+/// is false of some path: of the chain in `proofs/CutLawExamples.antt`, which meets the cut twice.
 pub fn each_path_meets_the_cut_once()
     ensures once { (heads : Heads) (lens : Lens) (resident path : List ℕ) → IsInRange heads →
         Checked heads → IsClosed heads resident → IsPath heads path →
         MeetsOnce (cut_of heads lens resident) path }
+    ensures false_without { (heads : Heads) × (lens : Lens) × (resident : List ℕ) × (path : List ℕ) ×
+        IsInRange heads × Checked heads × IsPath heads path ×
+        (MeetsOnce (cut_of heads lens resident) path → ⊥) }
 {}
 
 /// A law: the cut of a sound DAG over a closed set of pages has the edge sums of the source mesh, at every pair of
