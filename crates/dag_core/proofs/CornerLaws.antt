@@ -63,24 +63,29 @@ near_corners : (dag : Dag) (c : ℕ) → Sound dag → c < length dag.heads.clus
     list_all (is_near_source dag (error_of dag.heads c)) (tris_at dag c) ≡ true
 unfolding breaks_corners
 near_corners dag c sound below =
-    within_test c (length dag.heads.clusters) (list_all (is_near_source dag (error_of dag.heads c)) (tris_at dag c)) below (sound.rules 8 c)
+    within_test c (length dag.heads.clusters) (list_all (is_near_source dag (error_of dag.heads c))
+        (tris_at dag c)) below (sound.rules 8 c)
 
-first_of_all : (near : Tagged → Bool) (leaves : List Tagged) (other : Tri) → length leaves ≡ 1 → list_all near leaves ≡ true →
+first_of_all : (near : Tagged → Bool) (leaves : List Tagged) (other : Tri) → length leaves ≡ 1 →
+    list_all near leaves ≡ true →
     (leaf : Tagged) × (leaf.tri ≡ get_or (tris_of leaves) 0 other) × (near leaf ≡ true)
 first_of_all near [] other one all = absurd (omega arith)
 first_of_all near (leaf ∷ leaves) other one all = (leaf, refl, (and_parts (near leaf) (list_all near leaves) all).0)
 
-near_one : (dag : Dag) (most : ℕ) (t : Tagged) (other : Tri) → Sound dag → t.source < dag.heads.sources → is_near_source dag most t ≡ true →
+near_one : (dag : Dag) (most : ℕ) (t : Tagged) (other : Tri) → Sound dag → t.source < dag.heads.sources →
+    is_near_source dag most t ≡ true →
     is_near most t.tri (slice_index_or (source_of dag) t.source other) ≡ true
 unfolding is_near_source
 near_one dag most t other sound below near =
-    let leaf = first_of_all (λ s. is_near most t.tri s.tri) (leaf_tris_from dag t.source) other (one_leaf dag t.source sound below) near in
+    let leaf = first_of_all (λ s. is_near most t.tri s.tri) (leaf_tris_from dag t.source) other
+        (one_leaf dag t.source sound below) near in
     let there : slice_index_or (source_of dag) t.source other ≡ get_or (tris_of (leaf_tris_from dag t.source)) 0 other =
     single_at (λ source. tris_of (leaf_tris_from dag source)) dag.heads.sources t.source other
     (λ s within. length-map (leaf_tris_from dag s) (λ (t : Tagged). t.tri) ∙ one_leaf dag s sound within) below in
     subst (λ s. is_near most t.tri s ≡ true) (leaf.1 ∙ sym there) leaf.2
 
-near_all : (dag : Dag) (most : ℕ) (tris : List Tagged) (other : Tri) → Sound dag → All (IsSourcedTriangle dag.heads.sources) tris →
+near_all : (dag : Dag) (most : ℕ) (tris : List Tagged) (other : Tri) → Sound dag →
+    All (IsSourcedTriangle dag.heads.sources) tris →
     list_all (is_near_source dag most) tris ≡ true → All (IsNearSource dag most other) tris
 near_all dag most [] other sound sourced near = All-nil (IsNearSource dag most other)
 near_all dag most (t ∷ tris) other sound sourced near =

@@ -35,28 +35,32 @@ use Rattle.dag_core.proofs.WeightSums.{if_so, weigh, weigh-alike, weigh-filter, 
 abbrev sum_at : Dag → Pt → Pt → ℕ → ℤ
 sum_at dag u v c = edge_sum (tris_of (tris_at dag c)) u v
 
-tris_of-lists : (lists : ℕ → List Tagged) (clusters : List ℕ) → tris_of (flat_map lists clusters) ≡ flat_map (λ c. tris_of (lists c)) clusters
+tris_of-lists : (lists : ℕ → List Tagged) (clusters : List ℕ) →
+    tris_of (flat_map lists clusters) ≡ flat_map (λ c. tris_of (lists c)) clusters
 tris_of-lists lists [] = refl
 tris_of-lists lists (c ∷ clusters) =
     map-append (λ (t : Tagged). t.tri) (lists c) (flat_map lists clusters)
     ∙ ap (λ ts. tris_of (lists c) ++ ts) (tris_of-lists lists clusters)
 
 -- the edge sum of some clusters' triangles
-sum_in : (dag : Dag) (clusters : List ℕ) (u v : Pt) → edge_sum (tris_of (tris_in dag clusters)) u v ≡ weigh (sum_at dag u v) clusters
+sum_in : (dag : Dag) (clusters : List ℕ) (u v : Pt) → edge_sum (tris_of (tris_in dag clusters)) u v ≡ weigh
+    (sum_at dag u v) clusters
 sum_in dag clusters u v =
     ap (λ tris. edge_sum tris u v) (tris_of-lists (tris_at dag) clusters)
     ∙ edge_sum-lists (λ c. tris_of (tris_at dag c)) clusters u v
 
 -- the triangles of a cut, under a choice of triangles
 items-tris : (c n : ℕ) (tris : List Tri) →
-    map (λ (item : Item). item.tri) (map (λ (k, t). record { cluster = c; place = k; tri = t }) (enumerate_from n tris)) ≡ tris
+    map (λ (item : Item). item.tri) (map (λ (k, t). record { cluster = c; place = k; tri = t })
+        (enumerate_from n tris)) ≡ tris
 items-tris c n [] = refl
 items-tris c n (t ∷ tris) = ap (λ ts. t ∷ ts) (items-tris c (n + 1) tris)
 
 pub cut_tris-lists : (tris : ℕ → List Tri) (cut : List ℕ) → cut_tris tris cut ≡ flat_map tris cut
 cut_tris-lists tris [] = refl
 cut_tris-lists tris (c ∷ cut) =
-    map-append (λ (item : Item). item.tri) (map (λ (k, t). record { cluster = c; place = k; tri = t }) (enumerate_from 0 (tris c))) (cut_items tris cut)
+    map-append (λ (item : Item). item.tri) (map (λ (k, t). record { cluster = c; place = k; tri = t })
+        (enumerate_from 0 (tris c))) (cut_items tris cut)
     ∙ (ap (λ ts. ts ++ cut_tris tris cut) (items-tris c 0 (tris c)) ∙ ap (λ ts. tris c ++ ts) (cut_tris-lists tris cut))
 
 -- ---- what is left of groups
@@ -70,12 +74,15 @@ below_test : (g n : ℕ) (b : Bool) → g < n → (nat_lt g n && b) ≡ false �
 below_test g n true below kept = grind (arith, nat_tests)
 below_test g n false below kept = refl
 
-group_sums : (dag : Dag) (g : ℕ) (u v : Pt) → Sound dag → g < length dag.heads.groups → (group_at dag.heads g).terminal ≡ false →
+group_sums : (dag : Dag) (g : ℕ) (u v : Pt) → Sound dag → g < length dag.heads.groups →
+    (group_at dag.heads g).terminal ≡ false →
     weigh (sum_at dag u v) (members dag.heads g) ≡ weigh (sum_at dag u v) (made_by dag.heads g)
 unfolding breaks_sums
 group_sums dag g u v sound below goes_on =
-    let same = have_same_sums (tris_of (tris_in dag (members dag.heads g))) (tris_of (tris_in dag (made_by dag.heads g))) in
-    let kept = below_test g (length dag.heads.groups) (not (group_at dag.heads g).terminal && not same) below (sound.rules 6 g) in
+    let same = have_same_sums (tris_of (tris_in dag (members dag.heads g))) (tris_of (tris_in dag
+        (made_by dag.heads g))) in
+    let kept = below_test g (length dag.heads.groups) (not (group_at dag.heads g).terminal && not same) below
+        (sound.rules 6 g) in
     sym (sum_in dag (members dag.heads g) u v)
     ∙ (sums_agree (tris_of (tris_in dag (members dag.heads g))) (tris_of (tris_in dag (made_by dag.heads g)))
     (keeps_sums (group_at dag.heads g).terminal same kept goes_on) u v
@@ -89,22 +96,27 @@ none_by : (heads : Heads) (g c : ℕ) → Checked heads → g < length heads.gro
     c < length heads.clusters → is_made_by g (cluster_at heads c) ≡ false
 unfolding has_made
 none_by heads g c checked below terminal within =
-    let none = nothing_made (group_at heads g).terminal (has_made heads g) (sym (terminal_at heads g below) ∙ checked 3 g) terminal in
+    let none = nothing_made (group_at heads g).terminal (has_made heads g) (sym (terminal_at heads g below)
+        ∙ checked 3 g) terminal in
     false_from_ne_true (is_made_by g (cluster_at heads c))
     (λ made. true≢false (sym (list_any_at (is_made_by g) heads.clusters c no_cluster within made) ∙ none))
 
-no_made : (dag : Dag) (g : ℕ) (u v : Pt) → Checked dag.heads → g < length dag.heads.groups → (group_at dag.heads g).terminal ≡ true →
+no_made : (dag : Dag) (g : ℕ) (u v : Pt) → Checked dag.heads → g < length dag.heads.groups →
+    (group_at dag.heads g).terminal ≡ true →
     weigh (sum_at dag u v) (made_by dag.heads g) ≡ pos 0
 no_made dag g u v checked below terminal =
     weigh-filter (sum_at dag u v) (λ c. is_made_by g (cluster_at dag.heads c)) (all_clusters dag.heads)
-    ∙ (weigh-alike (λ c. if_so (is_made_by g (cluster_at dag.heads c)) (sum_at dag u v c)) (λ c. pos 0) (length dag.heads.clusters)
+    ∙ (weigh-alike (λ c. if_so (is_made_by g (cluster_at dag.heads c)) (sum_at dag u v c)) (λ c. pos 0)
+        (length dag.heads.clusters)
     (λ c within. ap (λ b. if_so b (sum_at dag u v c)) (none_by dag.heads g c checked below terminal within))
     ∙ weigh-nothing (all_clusters dag.heads))
 
 -- ---- the cut and the leaves
 
-maker_of : (heads : Heads) (lens : Lens) (resident : List ℕ) (c : ℕ) (made : Option ℕ) → IsInRange heads → Checked heads → IsClosed heads resident →
-    c < length heads.clusters → (cluster_at heads c).made ≡ made → is_made_open (is_open heads lens resident) made ≡ true →
+maker_of : (heads : Heads) (lens : Lens) (resident : List ℕ) (c : ℕ) (made : Option ℕ) → IsInRange heads →
+    Checked heads → IsClosed heads resident →
+    c < length heads.clusters → (cluster_at heads c).made ≡ made →
+        is_made_open (is_open heads lens resident) made ≡ true →
     is_open heads lens resident (home heads c) ≡ true
 maker_of heads lens resident c None range checked closed below made is = absurd (true≢false (sym is))
 maker_of heads lens resident c (Some m) range checked closed below made is =
@@ -122,7 +134,8 @@ cut_is : (heads : Heads) (lens : Lens) (resident : List ℕ) →
     cut_of heads lens resident ≡ filter (is_cut heads (is_open heads lens resident)) (all_clusters heads)
 cut_is heads lens resident =
     filter_alike (is_in_cut heads lens resident) (is_cut heads (is_open heads lens resident)) (length heads.clusters)
-    (λ c below. both_alike (is_open heads lens resident (home heads c)) _ _ _ refl (same_maker heads lens resident (cluster_at heads c).made))
+    (λ c below. both_alike (is_open heads lens resident (home heads c)) _ _ _ refl (same_maker heads lens resident
+        (cluster_at heads c).made))
 
 leaf_is : (made : Option ℕ) → is_none made ≡ (true && not (is_made_open (λ g. true) made))
 leaf_is None = refl
@@ -141,7 +154,8 @@ cut_sum dag lens resident u v sound closed =
     let turn = in_turn dag.heads (λ rule index below. checked rule index) in
     ap (weigh (sum_at dag u v)) (cut_is dag.heads lens resident)
     ∙ cut_weight dag.heads (is_open dag.heads lens resident) (sum_at dag u v) range turn (record {
-      home = λ c below is. maker_of dag.heads lens resident c (cluster_at dag.heads c).made range checked closed below refl is;
+      home = λ c below is. maker_of dag.heads lens resident c
+          (cluster_at dag.heads c).made range checked closed below refl is;
       terminal = λ g below terminal. terminal_is_open dag.heads lens resident g range checked closed below terminal;
       same = λ g below goes_on. group_sums dag g u v sound below goes_on;
       none = λ g below terminal. no_made dag g u v checked below terminal;
@@ -162,16 +176,19 @@ leaf_sum dag u v sound =
 
 -- ---- sources
 
-pub all_at : (P : Tagged → Type 0) (lists : List (List Tagged)) (c : ℕ) → All (All P) lists → All P (slice_index_or lists c [])
+pub all_at : (P : Tagged → Type 0) (lists : List (List Tagged)) (c : ℕ) → All (All P) lists →
+    All P (slice_index_or lists c [])
 all_at P lists c all =
     elim (cases_lt c (length lists)) [
       | inl below ↦ All-get_or (All P) lists c [] below all
       | inr beyond ↦ subst (All P) (sym (get_or_past lists c [] beyond)) (All-nil P)
     ]
 
-all_in : (P : Tagged → Type 0) (lists : ℕ → List Tagged) (clusters : List ℕ) → ((c : ℕ) → All P (lists c)) → All P (flat_map lists clusters)
+all_in : (P : Tagged → Type 0) (lists : ℕ → List Tagged) (clusters : List ℕ) → ((c : ℕ) → All P (lists c)) →
+    All P (flat_map lists clusters)
 all_in P lists [] each = All-nil P
-all_in P lists (c ∷ clusters) each = All-append P (lists c) (flat_map lists clusters) (each c) (all_in P lists clusters each)
+all_in P lists (c ∷ clusters) each = All-append P (lists c) (flat_map lists clusters) (each c)
+    (all_in P lists clusters each)
 
 sourced : (sources : ℕ) (tris : List Tagged) → All (IsSourcedTriangle sources) tris → All (λ t. t.source < sources) tris
 sourced sources [] all = All-nil (λ (t : Tagged). t.source < sources)
@@ -185,8 +202,10 @@ leaf_sources dag sound =
     (all_in (IsSourcedTriangle dag.heads.sources) (tris_at dag) (leaves dag.heads)
     (λ c. all_at (IsSourcedTriangle dag.heads.sources) dag.tris c sound.laid_out.triangles))
 
-pub cuts_keep_edge_sums : (dag : Dag) (lens : Lens) (resident : List ℕ) (u v : Pt) → Sound dag → IsClosed dag.heads resident →
-    edge_sum (cut_tris (λ c. tris_of (tris_at dag c)) (cut_of dag.heads lens resident)) u v ≡ edge_sum (source_of dag) u v
+pub cuts_keep_edge_sums : (dag : Dag) (lens : Lens) (resident : List ℕ) (u v : Pt) → Sound dag →
+    IsClosed dag.heads resident →
+    edge_sum (cut_tris (λ c. tris_of (tris_at dag c)) (cut_of dag.heads lens resident)) u v ≡ edge_sum
+        (source_of dag) u v
 cuts_keep_edge_sums dag lens resident u v sound closed =
     ap (λ tris. edge_sum tris u v) (cut_tris-lists (λ c. tris_of (tris_at dag c)) (cut_of dag.heads lens resident))
     ∙ (edge_sum-lists (λ c. tris_of (tris_at dag c)) (cut_of dag.heads lens resident) u v

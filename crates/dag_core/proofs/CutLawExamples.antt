@@ -69,7 +69,8 @@ unfolding is_coarse box_distance outside is_open
 open_over_pages_0_and_2 = refl
 
 -- where the maker's error is greater than the home's, rule 4 is broken
-pub open_under_a_lesser_error : map (is_open (chain_of 0 3 4) (lens_of 1 50) (0 ∷ 1 ∷ 2 ∷ [])) (2 ∷ 1 ∷ []) ≡ true ∷ false ∷ []
+pub open_under_a_lesser_error : map (is_open (chain_of 0 3 4) (lens_of 1 50) (0 ∷ 1 ∷ 2 ∷ []))
+    (2 ∷ 1 ∷ []) ≡ true ∷ false ∷ []
 unfolding is_coarse box_distance outside is_open
 open_under_a_lesser_error = refl
 
@@ -92,7 +93,8 @@ unfolding are_counts_in_range is_group_in_range is_cluster_in_range is_under
 chain_range = range_from chain (record { counts = refl; groups = refl; clusters = refl })
 
 pub chain_checked : Checked chain
-unfolding home tris_on has_terminal_on is_upper members_before breaks_members breaks_maker has_made breaks_terminal is_outgrown breaks_bound breaks_page is_under holds_box
+unfolding home tris_on has_terminal_on is_upper members_before breaks_members breaks_maker has_made breaks_terminal
+    is_outgrown breaks_bound breaks_page is_under holds_box
 chain_checked =
     checked_from chain
     (none_from_search (breaks_members chain) 4 refl (λ place from. members_beyond chain place (omega arith)))
@@ -107,7 +109,8 @@ three_numbers P at_0 at_1 at_2 (suc zero) below = at_1
 three_numbers P at_0 at_1 at_2 (suc (suc zero)) below = at_2
 three_numbers P at_0 at_1 at_2 (suc (suc (suc k))) below = absurd (omega arith)
 
-next_made : (k : ℕ) → k + 1 < 3 → (cluster_at chain (get_or chain_path (k + 1) 0)).made ≡ Some (home chain (get_or chain_path k 0))
+next_made : (k : ℕ) → k + 1 < 3 → (cluster_at chain (get_or chain_path (k + 1) 0)).made ≡ Some (home chain
+    (get_or chain_path k 0))
 unfolding home
 next_made zero below = refl
 next_made (suc zero) below = refl
@@ -123,7 +126,8 @@ last_terminal (suc (suc (suc k))) last = absurd (omega arith)
 pub chain_is_path : IsPath chain chain_path
 chain_is_path = record {
   some = omega arith;
-  clusters = λ k below. three_numbers (λ k. get_or chain_path k 0 < 3) (omega arith) (omega arith) (omega arith) k below;
+  clusters = λ k below. three_numbers (λ k. get_or chain_path k 0 < 3) (omega arith) (omega arith)
+      (omega arith) k below;
   leaf = refl;
   made = next_made;
   end = last_terminal;
@@ -143,7 +147,8 @@ meets_twice once =
 -- ---- edge sums of the two squares at the edge from A to B of square 1
 
 abbrev cut_sum : List ℕ → ℤ
-cut_sum resident = edge_sum (cut_tris (λ c. tris_of (tris_at two_squares c)) (cut_of two_squares_heads (lens_of 1 0) resident)) (corner_a 0) (corner_b 0)
+cut_sum resident = edge_sum (cut_tris (λ c. tris_of (tris_at two_squares c)) (cut_of two_squares_heads
+    (lens_of 1 0) resident)) (corner_a 0) (corner_b 0)
 
 -- over no page, which isn't closed, the cut is empty; over the root page it has the source's sum, and so isn't closed
 -- where the source isn't

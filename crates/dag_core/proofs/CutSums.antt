@@ -43,10 +43,12 @@ nothing_more a = omega (arith, ints)
 regrouped : (a b w : ℤ) → (a +ℤ b) +ℤ w ≡ a +ℤ (b +ℤ w)
 regrouped a b w = omega (arith, ints)
 
-weigh-later : (weight : ℕ → ℤ) (a n : ℕ) → weigh weight (range_with_len a (n + 1)) ≡ weigh weight (range_with_len a n) +ℤ weight (a + n)
+weigh-later : (weight : ℕ → ℤ) (a n : ℕ) → weigh weight (range_with_len a (n + 1)) ≡ weigh weight
+    (range_with_len a n) +ℤ weight (a + n)
 weigh-later weight a n =
     ap (weigh weight) (one_later a n)
-    ∙ (weigh-append weight (range_with_len a n) ((a + n) ∷ []) ∙ last_weight (weigh weight (range_with_len a n)) (weight (a + n)))
+    ∙ (weigh-append weight (range_with_len a n) ((a + n) ∷ []) ∙ last_weight (weigh weight (range_with_len a n))
+        (weight (a + n)))
 
 -- the numbers below a + n are those below a and the n from a on
 weigh-joined : (weight : ℕ → ℤ) (a n : ℕ) →
@@ -73,12 +75,14 @@ alike-later weight other a (suc n) same =
     subst (λ m. weigh weight (range_with_len a m) ≡ weigh other (range_with_len a m)) grown
     (weigh-later weight a n
     ∙ (ap (λ w. w +ℤ weight (a + n)) (alike-later weight other a n (λ k from below. same k from (omega arith)))
-    ∙ (ap (λ w. weigh other (range_with_len a n) +ℤ w) (same (a + n) (omega arith) (omega arith)) ∙ sym (weigh-later other a n))))
+    ∙ (ap (λ w. weigh other (range_with_len a n) +ℤ w) (same (a + n) (omega arith) (omega arith)) ∙ sym
+        (weigh-later other a n))))
 
 -- ---- by homes
 
 -- the weight of the members of the first k groups, those of open groups alone
-by_homes : (heads : Heads) (open_group : ℕ → Bool) (weight : ℕ → ℤ) (k : ℕ) → AreMembersInTurn heads → k ≤ length heads.groups →
+by_homes : (heads : Heads) (open_group : ℕ → Bool) (weight : ℕ → ℤ) (k : ℕ) → AreMembersInTurn heads →
+    k ≤ length heads.groups →
     weigh (λ c. if_so (open_group (home heads c)) (weight c)) (range_with_len 0 (members_before heads k))
     ≡ weigh (λ g. if_so (open_group g) (weigh weight (members heads g))) (range_with_len 0 k)
 by_homes heads open_group weight zero turn le =
@@ -122,7 +126,8 @@ made_alone m g open_group w a false is = nothing_before (if_so (open_group g) a)
 
 -- what the groups made of these clusters, those of open groups alone
 abbrev made_weight : Heads → (ℕ → Bool) → (ℕ → ℤ) → List ℕ → ℕ → ℤ
-made_weight heads open_group weight clusters g = if_so (open_group g) (weigh weight (filter (λ c. is_made_by g (cluster_at heads c)) clusters))
+made_weight heads open_group weight clusters g = if_so (open_group g) (weigh weight (filter (λ c. is_made_by g
+    (cluster_at heads c)) clusters))
 
 makers_of_one : (heads : Heads) (open_group : ℕ → Bool) (weight : ℕ → ℤ) (c : ℕ) (clusters : List ℕ) (made : Option ℕ) →
     (cluster_at heads c).made ≡ made → ((m : ℕ) → made ≡ Some m → m < length heads.groups) →
@@ -130,25 +135,31 @@ makers_of_one : (heads : Heads) (open_group : ℕ → Bool) (weight : ℕ → �
     ≡ if_so (is_made_open open_group made) (weight c)
     +ℤ weigh (made_weight heads open_group weight clusters) (range_with_len 0 (length heads.groups))
 makers_of_one heads open_group weight c clusters None is below =
-    weigh-alike (made_weight heads open_group weight (c ∷ clusters)) (made_weight heads open_group weight clusters) (length heads.groups)
-    (λ g within. ap (λ made. if_so (open_group g) (weigh weight (cond (is_maker g made) (c ∷ filter (λ d. is_made_by g (cluster_at heads d)) clusters)
+    weigh-alike (made_weight heads open_group weight (c ∷ clusters)) (made_weight heads open_group weight clusters)
+        (length heads.groups)
+    (λ g within. ap (λ made. if_so (open_group g) (weigh weight (cond (is_maker g made) (c ∷ filter
+        (λ d. is_made_by g (cluster_at heads d)) clusters)
     (filter (λ d. is_made_by g (cluster_at heads d)) clusters)))) is)
     ∙ before (weigh (made_weight heads open_group weight clusters) (range_with_len 0 (length heads.groups))) where
       before : (b : ℤ) → b ≡ pos 0 +ℤ b
       before b = omega (arith, ints)
 makers_of_one heads open_group weight c clusters (Some m) is below =
     weigh-alike (made_weight heads open_group weight (c ∷ clusters))
-    (λ g. if_so (m == g) (if_so (open_group m) (weight c)) +ℤ made_weight heads open_group weight clusters g) (length heads.groups)
+    (λ g. if_so (m == g) (if_so (open_group m) (weight c)) +ℤ made_weight heads open_group weight clusters g)
+        (length heads.groups)
     (λ g within.
-    ap (λ made. if_so (open_group g) (weigh weight (cond (is_maker g made) (c ∷ filter (λ d. is_made_by g (cluster_at heads d)) clusters)
+    ap (λ made. if_so (open_group g) (weigh weight (cond (is_maker g made) (c ∷ filter (λ d. is_made_by g
+        (cluster_at heads d)) clusters)
     (filter (λ d. is_made_by g (cluster_at heads d)) clusters)))) is
     ∙ (ap (if_so (open_group g)) (weighed (m == g) (filter (λ d. is_made_by g (cluster_at heads d)) clusters))
-    ∙ made_alone m g open_group (weight c) (weigh weight (filter (λ d. is_made_by g (cluster_at heads d)) clusters)) (m == g) refl))
+    ∙ made_alone m g open_group (weight c) (weigh weight (filter (λ d. is_made_by g (cluster_at heads d)) clusters))
+        (m == g) refl))
     ∙ (weigh-plus (λ g. if_so (m == g) (if_so (open_group m) (weight c))) (made_weight heads open_group weight clusters)
     (range_with_len 0 (length heads.groups))
     ∙ ap (λ w. w +ℤ weigh (made_weight heads open_group weight clusters) (range_with_len 0 (length heads.groups)))
     (weigh-one m (length heads.groups) (if_so (open_group m) (weight c)) (below m refl))) where
-      weighed : (b : Bool) (xs : List ℕ) → weigh weight (cond b (c ∷ xs) xs) ≡ cond b (weight c +ℤ weigh weight xs) (weigh weight xs)
+      weighed : (b : Bool) (xs : List ℕ) → weigh weight (cond b (c ∷ xs) xs) ≡ cond b (weight c +ℤ weigh weight xs)
+          (weigh weight xs)
       weighed true xs = refl
       weighed false xs = refl
 
@@ -157,14 +168,16 @@ makers_of : (heads : Heads) (open_group : ℕ → Bool) (weight : ℕ → ℤ) (
     weigh (made_weight heads open_group weight clusters) (range_with_len 0 (length heads.groups))
     ≡ weigh (λ c. if_so (is_made_open open_group (cluster_at heads c).made) (weight c)) clusters
 makers_of heads open_group weight [] range below =
-    weigh-alike (made_weight heads open_group weight []) (λ g. pos 0) (length heads.groups) (λ g within. nothing (open_group g))
+    weigh-alike (made_weight heads open_group weight []) (λ g. pos 0) (length heads.groups) (λ g within. nothing
+        (open_group g))
     ∙ weigh-nothing (range_with_len 0 (length heads.groups)) where
       nothing : (b : Bool) → if_so b (pos 0) ≡ pos 0
       nothing true = refl
       nothing false = refl
 makers_of heads open_group weight (c ∷ clusters) range below =
     let here = All-head (λ c. c < length heads.clusters) c clusters below in
-    makers_of_one heads open_group weight c clusters (cluster_at heads c).made refl (λ m made. maker_below heads c m range here made)
+    makers_of_one heads open_group weight c clusters (cluster_at heads c).made refl
+        (λ m made. maker_below heads c m range here made)
     ∙ ap (λ w. if_so (is_made_open open_group (cluster_at heads c).made) (weight c) +ℤ w)
     (makers_of heads open_group weight clusters range (All-tail (λ c. c < length heads.clusters) c clusters below))
 
@@ -177,7 +190,8 @@ pub record Opens (heads : Heads) (open_group : ℕ → Bool) (weight : ℕ → �
   pub terminal : (g : ℕ) → g < length heads.groups → (group_at heads g).terminal ≡ true → open_group g ≡ true
   pub same : (g : ℕ) → g < length heads.groups → (group_at heads g).terminal ≡ false →
       weigh weight (members heads g) ≡ weigh weight (made_by heads g)
-  pub none : (g : ℕ) → g < length heads.groups → (group_at heads g).terminal ≡ true → weigh weight (made_by heads g) ≡ pos 0
+  pub none : (g : ℕ) → g < length heads.groups → (group_at heads g).terminal ≡ true →
+      weigh weight (made_by heads g) ≡ pos 0
 
 cut_or_made : (at_home by_maker : Bool) (w : ℤ) → (by_maker ≡ true → at_home ≡ true) →
     if_so (at_home && not by_maker) w +ℤ if_so by_maker w ≡ if_so at_home w
@@ -209,7 +223,8 @@ all_below n =
 -- the members of terminal groups
 abbrev pub terminal_weight : Heads → (ℕ → ℤ) → ℤ
 terminal_weight heads weight =
-    weigh (λ g. if_so (group_at heads g).terminal (weigh weight (members heads g))) (range_with_len 0 (length heads.groups))
+    weigh (λ g. if_so (group_at heads g).terminal (weigh weight (members heads g))) (range_with_len 0
+        (length heads.groups))
 
 pub cut_weight : (heads : Heads) (open_group : ℕ → Bool) (weight : ℕ → ℤ) → IsInRange heads → AreMembersInTurn heads →
     Opens heads open_group weight →
@@ -224,19 +239,23 @@ cut_weight heads open_group weight range turn opens =
     let both : weigh cut (range_with_len 0 n) +ℤ weigh made (range_with_len 0 n) ≡ weigh at_home (range_with_len 0 n) =
     sym (weigh-plus cut made (range_with_len 0 n))
     ∙ weigh-alike (λ c. cut c +ℤ made c) at_home n
-    (λ c below. cut_or_made (open_group (home heads c)) (is_made_open open_group (cluster_at heads c).made) (weight c) (opens.home c below)) in
+    (λ c below. cut_or_made (open_group (home heads c)) (is_made_open open_group (cluster_at heads c).made)
+        (weight c) (opens.home c below)) in
     let homes : weigh at_home (range_with_len 0 n)
     ≡ weigh (λ g. if_so (open_group g) (weigh weight (members heads g))) (range_with_len 0 groups) =
     ap (λ k. weigh at_home (range_with_len 0 k)) (sym (members_are_all heads turn))
     ∙ by_homes heads open_group weight groups turn (omega arith) in
     let groups_alike : weigh (λ g. if_so (open_group g) (weigh weight (members heads g))) (range_with_len 0 groups)
-    ≡ weigh terminal (range_with_len 0 groups) +ℤ weigh (made_weight heads open_group weight (all_clusters heads)) (range_with_len 0 groups) =
+    ≡ weigh terminal (range_with_len 0 groups) +ℤ weigh (made_weight heads open_group weight (all_clusters heads))
+        (range_with_len 0 groups) =
     weigh-alike (λ g. if_so (open_group g) (weigh weight (members heads g)))
     (λ g. terminal g +ℤ made_weight heads open_group weight (all_clusters heads) g) groups
-    (λ g below. terminal_or_made (group_at heads g).terminal (open_group g) (weigh weight (members heads g)) (weigh weight (made_by heads g))
+    (λ g below. terminal_or_made (group_at heads g).terminal (open_group g) (weigh weight (members heads g))
+        (weigh weight (made_by heads g))
     (opens.terminal g below) (opens.same g below) (opens.none g below))
     ∙ weigh-plus terminal (made_weight heads open_group weight (all_clusters heads)) (range_with_len 0 groups) in
     let makers = makers_of heads open_group weight (all_clusters heads) range (all_below n) in
     weigh-filter weight (is_cut heads open_group) (all_clusters heads)
-    ∙ cancelled (weigh cut (range_with_len 0 n)) (weigh made (range_with_len 0 n)) (weigh terminal (range_with_len 0 groups))
+    ∙ cancelled (weigh cut (range_with_len 0 n)) (weigh made (range_with_len 0 n)) (weigh terminal
+        (range_with_len 0 groups))
     (both ∙ (homes ∙ (groups_alike ∙ ap (λ w. weigh terminal (range_with_len 0 groups) +ℤ w) makers)))

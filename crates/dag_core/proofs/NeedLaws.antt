@@ -43,12 +43,14 @@ filter_alike test other (suc n) same =
 
 -- ---- groups that are open over what is needed
 
-any_map : {X : Type 0} (test : ℕ → Bool) (f : X → ℕ) (xs : List X) → list_any test (map f xs) ≡ list_any (λ x. test (f x)) xs
+any_map : {X : Type 0} (test : ℕ → Bool) (f : X → ℕ) (xs : List X) →
+    list_any test (map f xs) ≡ list_any (λ x. test (f x)) xs
 any_map test f [] = refl
 any_map test f (x ∷ xs) = ap (λ b. test (f x) || b) (any_map test f xs)
 
 -- the page of a coarse group is among the seeds
-coarse_seed : (heads : Heads) (lens : Lens) (g : ℕ) → g < length heads.groups → is_coarse_group lens (group_at heads g) ≡ true →
+coarse_seed : (heads : Heads) (lens : Lens) (g : ℕ) → g < length heads.groups →
+    is_coarse_group lens (group_at heads g) ≡ true →
     has_page (coarse_pages heads lens) (group_at heads g).page ≡ true
 coarse_seed heads lens g below coarse =
     let p : ℕ = (group_at heads g).page in
@@ -57,7 +59,8 @@ coarse_seed heads lens g below coarse =
     ∙ list_any_at (λ (group : Group). is_coarse_group lens group && group.page == p) heads.groups g no_group below
     (and_from (is_coarse_group lens (group_at heads g)) (p == p) coarse (same_number p)))
 
-same_open : (has all terminal coarse : Bool) → all ≡ true → (terminal ≡ true → has ≡ true) → (coarse ≡ true → has ≡ true) →
+same_open : (has all terminal coarse : Bool) → all ≡ true → (terminal ≡ true → has ≡ true) → (coarse ≡ true →
+    has ≡ true) →
     (has && (terminal || coarse)) ≡ (all && (terminal || coarse))
 same_open true true terminal coarse is by_terminal by_coarse = refl
 same_open false true true coarse is by_terminal by_coarse = by_terminal refl
@@ -73,12 +76,15 @@ unfolding is_open
 open_alike heads lens need resident g range checked is_need enough below =
     let group : Group = group_at heads g in
     let bounds = group_bounds heads g range below in
-    same_open (has_page resident group.page) (has_page (range_with_len 0 heads.pages) group.page) group.terminal (is_coarse_group lens group)
+    same_open (has_page resident group.page) (has_page (range_with_len 0 heads.pages) group.page) group.terminal
+        (is_coarse_group lens group)
     (in_all heads.pages group.page bounds.page)
-    (λ terminal. enough group.page (is_need.closed.roots group.page (terminal_is_root heads g range checked below terminal)))
+    (λ terminal. enough group.page (is_need.closed.roots group.page
+        (terminal_is_root heads g range checked below terminal)))
     (λ coarse. enough group.page (is_need.seeded group.page (coarse_seed heads lens g below coarse)))
 
-maker_alike : (heads : Heads) (lens : Lens) (need resident : List ℕ) (c : ℕ) (made : Option ℕ) → IsInRange heads → Checked heads →
+maker_alike : (heads : Heads) (lens : Lens) (need resident : List ℕ) (c : ℕ) (made : Option ℕ) → IsInRange heads →
+    Checked heads →
     IsNeed heads lens need → AreIn need resident → c < length heads.clusters → (cluster_at heads c).made ≡ made →
     is_maker_open heads lens resident made ≡ is_maker_open heads lens (range_with_len 0 heads.pages) made
 maker_alike heads lens need resident c None range checked is_need enough below made = refl
@@ -94,7 +100,8 @@ pub need_is_enough : (heads : Heads) (lens : Lens) (need resident : List ℕ) �
     cut_of heads lens resident ≡ cut_of heads lens (range_with_len 0 heads.pages)
 need_is_enough heads lens need resident range checked is_need enough =
     let turn = in_turn heads (λ rule index below. checked rule index) in
-    filter_alike (is_in_cut heads lens resident) (is_in_cut heads lens (range_with_len 0 heads.pages)) (length heads.clusters)
+    filter_alike (is_in_cut heads lens resident) (is_in_cut heads lens (range_with_len 0 heads.pages))
+        (length heads.clusters)
     (λ c below. both_alike _ _ _ _
     (open_alike heads lens need resident (home heads c) range checked is_need enough (home_below heads c turn below))
     (maker_alike heads lens need resident c (cluster_at heads c).made range checked is_need enough below refl))

@@ -43,7 +43,8 @@ test_below : (a b : ℕ) → a < b → nat_lt a b ≡ true
 test_below a b lt = grind (arith, nat_tests)
 
 -- a greater error in a wider box is coarse where the lesser one in the box is
-pub coarse_grows : (error greater : ℕ) (box wider : Cube) (lens : Lens) → error ≤ greater → IsTrue (is_under box.lo box.hi) →
+pub coarse_grows : (error greater : ℕ) (box wider : Cube) (lens : Lens) → error ≤ greater →
+    IsTrue (is_under box.lo box.hi) →
     IsTrue (holds_box wider box) → IsTrue (is_coarse error box lens) → IsTrue (is_coarse greater wider lens)
 unfolding is_coarse
 coarse_grows error greater box wider lens le corners holds coarse =
@@ -51,7 +52,8 @@ coarse_grows error greater box wider lens le corners holds coarse =
     box_distance-wider wider box lens.eye (Under-from box.lo box.hi corners) (Holds-from wider box holds) in
     let left = wider_product lens.tolerance (box_distance wider lens.eye) (box_distance box lens.eye) near in
     let right = greater_product error greater lens.focal le in
-    let below = below_test (lens.tolerance * max 1 (box_distance box lens.eye)) (error * lens.focal * SUBPIXELS) coarse in
+    let below = below_test (lens.tolerance * max 1 (box_distance box lens.eye))
+        (error * lens.focal * SUBPIXELS) coarse in
     test_below (lens.tolerance * max 1 (box_distance wider lens.eye)) (greater * lens.focal * SUBPIXELS) (omega arith)
 
 same_number : (p : ℕ) → (p == p) ≡ true
@@ -64,8 +66,10 @@ terminal_on : (heads : Heads) (g : ℕ) → g < length heads.groups → IsTrue (
     has_terminal_on heads (group_at heads g).page ≡ true
 unfolding has_terminal_on
 terminal_on heads g below terminal =
-    list_any_at (λ (group : Group). group.terminal && group.page == (group_at heads g).page) heads.groups g no_group below
-    (and_from (group_at heads g).terminal ((group_at heads g).page == (group_at heads g).page) terminal (grind (arith, nat_tests)))
+    list_any_at (λ (group : Group). group.terminal && group.page ==
+        (group_at heads g).page) heads.groups g no_group below
+    (and_from (group_at heads g).terminal ((group_at heads g).page == (group_at heads g).page) terminal (grind
+        (arith, nat_tests)))
 
 root_page : (roots p : ℕ) (counts later : Bool) → (not counts || nat_le roots p && true || later) ≡ false → p < roots
 root_page roots p true later kept = grind (arith, nat_tests)
@@ -79,11 +83,13 @@ terminal_is_root heads g range checked below terminal =
     let page = group_bounds heads g range below in
     let kept = sym (page_at heads p page.page) ∙ checked 5 p in
     root_page heads.roots p (is_count_to PAGE_TRIANGLES (tris_on heads p)) (list_any (nat_lt p) (uppers_of heads p))
-    (subst (λ b. (not (is_count_to PAGE_TRIANGLES (tris_on heads p)) || nat_le heads.roots p && b || list_any (nat_lt p) (uppers_of heads p)) ≡ false)
+    (subst (λ b. (not (is_count_to PAGE_TRIANGLES (tris_on heads p)) || nat_le heads.roots p && b || list_any
+        (nat_lt p) (uppers_of heads p)) ≡ false)
     (terminal_on heads g below terminal) kept)
 
 -- a group that made a cluster isn't terminal
-made_test : (heads : Heads) (c m : ℕ) → c < length heads.clusters → (cluster_at heads c).made ≡ Some m → has_made heads m ≡ true
+made_test : (heads : Heads) (c m : ℕ) → c < length heads.clusters → (cluster_at heads c).made ≡ Some m →
+    has_made heads m ≡ true
 unfolding has_made
 made_test heads c m below made =
     list_any_at (is_made_by m) heads.clusters c no_cluster below
@@ -127,7 +133,8 @@ bounded home maker kept =
     let parts = bounds_by home.terminal (nat_lt home.error maker.error) (holds_box home.cube maker.cube) kept in
     record { holds = parts.0; error = λ goes_on. not_less home.error maker.error (parts.1 goes_on) }
 
-home_bounds : (heads : Heads) (c m : ℕ) → Checked heads → c < length heads.clusters → (cluster_at heads c).made ≡ Some m →
+home_bounds : (heads : Heads) (c m : ℕ) → Checked heads → c < length heads.clusters →
+    (cluster_at heads c).made ≡ Some m →
     Bounds (group_at heads (home heads c)) (group_at heads m)
 home_bounds heads c m checked below made =
     bounded (group_at heads (home heads c)) (group_at heads m)
@@ -160,16 +167,21 @@ home_page heads resident c m closed below made has =
     ]
 
 open_parts : (heads : Heads) (lens : Lens) (resident : List ℕ) (g : ℕ) → is_open heads lens resident g ≡ true →
-    (has_page resident (group_at heads g).page ≡ true) × (((group_at heads g).terminal || is_coarse_group lens (group_at heads g)) ≡ true)
+    (has_page resident (group_at heads g).page ≡ true) × (((group_at heads g).terminal || is_coarse_group lens
+        (group_at heads g)) ≡ true)
 unfolding is_open
 open_parts heads lens resident g is =
-    and_parts (has_page resident (group_at heads g).page) ((group_at heads g).terminal || is_coarse_group lens (group_at heads g)) is
+    and_parts (has_page resident (group_at heads g).page) ((group_at heads g).terminal || is_coarse_group lens
+        (group_at heads g)) is
 
-open_from : (heads : Heads) (lens : Lens) (resident : List ℕ) (g : ℕ) → has_page resident (group_at heads g).page ≡ true →
-    ((group_at heads g).terminal || is_coarse_group lens (group_at heads g)) ≡ true → is_open heads lens resident g ≡ true
+open_from : (heads : Heads) (lens : Lens) (resident : List ℕ) (g : ℕ) →
+    has_page resident (group_at heads g).page ≡ true →
+    ((group_at heads g).terminal || is_coarse_group lens (group_at heads g)) ≡ true →
+        is_open heads lens resident g ≡ true
 unfolding is_open
 open_from heads lens resident g has detail =
-    and_from (has_page resident (group_at heads g).page) ((group_at heads g).terminal || is_coarse_group lens (group_at heads g)) has detail
+    and_from (has_page resident (group_at heads g).page) ((group_at heads g).terminal || is_coarse_group lens
+        (group_at heads g)) has detail
 
 whatever : (a b : Bool) → true ≡ false → a ≡ b
 whatever true true contrary = refl
@@ -186,15 +198,18 @@ or_by true b is = refl
 or_by false b is = is refl
 
 -- a terminal group is open
-pub terminal_is_open : (heads : Heads) (lens : Lens) (resident : List ℕ) (g : ℕ) → IsInRange heads → Checked heads → IsClosed heads resident →
+pub terminal_is_open : (heads : Heads) (lens : Lens) (resident : List ℕ) (g : ℕ) → IsInRange heads → Checked heads →
+    IsClosed heads resident →
     g < length heads.groups → IsTrue (group_at heads g).terminal → is_open heads lens resident g ≡ true
 terminal_is_open heads lens resident g range checked closed below terminal =
     open_from heads lens resident g
     (closed.roots (group_at heads g).page (terminal_is_root heads g range checked below terminal))
-    (or_by (group_at heads g).terminal (is_coarse_group lens (group_at heads g)) (λ fails. whatever (is_coarse_group lens (group_at heads g)) true (sym terminal ∙ fails)))
+    (or_by (group_at heads g).terminal (is_coarse_group lens (group_at heads g)) (λ fails. whatever
+        (is_coarse_group lens (group_at heads g)) true (sym terminal ∙ fails)))
 
 -- where the maker of a cluster is open, so is its home
-pub home_is_open : (heads : Heads) (lens : Lens) (resident : List ℕ) (c m : ℕ) → IsInRange heads → Checked heads → IsClosed heads resident →
+pub home_is_open : (heads : Heads) (lens : Lens) (resident : List ℕ) (c m : ℕ) → IsInRange heads → Checked heads →
+    IsClosed heads resident →
     c < length heads.clusters → (cluster_at heads c).made ≡ Some m → is_open heads lens resident m ≡ true →
     is_open heads lens resident (home heads c) ≡ true
 home_is_open heads lens resident c m range checked closed below made is =

@@ -25,20 +25,23 @@ is_same : (n m : ℕ) → (n == m) ≡ true → n ≡ m
 is_same n m same = grind (arith, nat_tests)
 
 -- a filter of the numbers below n has those that pass
-pub in_filter : (test : ℕ → Bool) (n c : ℕ) → c < n → test c ≡ true → has_cluster (filter test (range_with_len 0 n)) c ≡ true
+pub in_filter : (test : ℕ → Bool) (n c : ℕ) → c < n → test c ≡ true →
+    has_cluster (filter test (range_with_len 0 n)) c ≡ true
 in_filter test n c below passes =
     list_any-filter (λ d. d == c) test (range_with_len 0 n)
     ∙ range_any (λ d. test d && d == c) n c below (and_from (test c) (c == c) passes (same_number c))
 
 pub from_filter : (test : ℕ → Bool) (n c : ℕ) → has_cluster (filter test (range_with_len 0 n)) c ≡ true → test c ≡ true
 from_filter test n c has =
-    let found = range_found (λ d. test d && d == c) n (sym (list_any-filter (λ d. d == c) test (range_with_len 0 n)) ∙ has) in
+    let found = range_found (λ d. test d && d == c) n (sym (list_any-filter (λ d. d == c) test (range_with_len 0 n))
+        ∙ has) in
     let both = and_parts (test found.number) (found.number == c) found.passes in
     subst (λ d. test d ≡ true) (is_same found.number c both.1) both.0
 
 pub below_filter : (test : ℕ → Bool) (n c : ℕ) → has_cluster (filter test (range_with_len 0 n)) c ≡ true → c < n
 below_filter test n c has =
-    let found = range_found (λ d. test d && d == c) n (sym (list_any-filter (λ d. d == c) test (range_with_len 0 n)) ∙ has) in
+    let found = range_found (λ d. test d && d == c) n (sym (list_any-filter (λ d. d == c) test (range_with_len 0 n))
+        ∙ has) in
     let both = and_parts (test found.number) (found.number == c) found.passes in
     subst (λ d. d < n) (is_same found.number c both.1) found.below
 
@@ -56,7 +59,8 @@ record Walk (heads : Heads) (resident path : List ℕ) : Type 0 where
   is_path : IsPath heads path
 
 -- the home of the last cluster is open
-end_is_open : (heads : Heads) (lens : Lens) (resident path : List ℕ) (k : ℕ) → Walk heads resident path → k + 1 ≡ length path →
+end_is_open : (heads : Heads) (lens : Lens) (resident path : List ℕ) (k : ℕ) → Walk heads resident path →
+    k + 1 ≡ length path →
     is_home_open heads lens resident (slice_index path k) ≡ true
 end_is_open heads lens resident path k walk last =
     let turn = in_turn heads (λ rule index below. walk.checked rule index) in
@@ -72,8 +76,10 @@ next_maker heads lens resident path k is_path below =
     ap (is_maker_open heads lens resident) (is_path.made k below)
 
 -- where one home is open, so are those that follow
-stays_open : (heads : Heads) (lens : Lens) (resident path : List ℕ) (k more : ℕ) → Walk heads resident path → k + more < length path →
-    is_home_open heads lens resident (slice_index path k) ≡ true → is_home_open heads lens resident (slice_index path (k + more)) ≡ true
+stays_open : (heads : Heads) (lens : Lens) (resident path : List ℕ) (k more : ℕ) → Walk heads resident path →
+    k + more < length path →
+    is_home_open heads lens resident (slice_index path k) ≡ true →
+        is_home_open heads lens resident (slice_index path (k + more)) ≡ true
 stays_open heads lens resident path k zero walk below here =
     let same : k ≡ k + 0 = omega arith in
     subst (λ n. is_home_open heads lens resident (slice_index path n) ≡ true) same here
@@ -85,7 +91,8 @@ stays_open heads lens resident path k (suc more) walk below here =
     walk.range walk.checked walk.closed (walk.is_path.clusters (k + more + 1) (omega arith))
     (walk.is_path.made (k + more) (omega arith)) before)
 
-stays_open_to : (heads : Heads) (lens : Lens) (resident path : List ℕ) (k later : ℕ) → Walk heads resident path → k ≤ later →
+stays_open_to : (heads : Heads) (lens : Lens) (resident path : List ℕ) (k later : ℕ) → Walk heads resident path →
+    k ≤ later →
     later < length path → is_home_open heads lens resident (slice_index path k) ≡ true →
     is_home_open heads lens resident (slice_index path later) ≡ true
 stays_open_to heads lens resident path k later walk le below here =
@@ -128,7 +135,8 @@ first_maker heads lens resident path (suc k) walk first within =
 cut_here : (heads : Heads) (lens : Lens) (resident : List ℕ) (c : ℕ) → is_home_open heads lens resident c ≡ true →
     is_maker_open heads lens resident (cluster_at heads c).made ≡ false → is_in_cut heads lens resident c ≡ true
 cut_here heads lens resident c home_open no_maker =
-    and_from (is_home_open heads lens resident c) (not (is_maker_open heads lens resident (cluster_at heads c).made)) home_open (ap not no_maker)
+    and_from (is_home_open heads lens resident c) (not (is_maker_open heads lens resident
+        (cluster_at heads c).made)) home_open (ap not no_maker)
 
 negated : (b : Bool) → not b ≡ true → b ≡ false
 negated true is = sym is
@@ -137,12 +145,15 @@ negated false is = refl
 cut_parts : (heads : Heads) (lens : Lens) (resident : List ℕ) (c : ℕ) → is_in_cut heads lens resident c ≡ true →
     (is_home_open heads lens resident c ≡ true) × (is_maker_open heads lens resident (cluster_at heads c).made ≡ false)
 cut_parts heads lens resident c is =
-    let both = and_parts (is_home_open heads lens resident c) (not (is_maker_open heads lens resident (cluster_at heads c).made)) is in
+    let both = and_parts (is_home_open heads lens resident c) (not (is_maker_open heads lens resident
+        (cluster_at heads c).made)) is in
     (both.0, negated (is_maker_open heads lens resident (cluster_at heads c).made) both.1)
 
 -- a place of the cut is not after the first
-not_after : (heads : Heads) (lens : Lens) (resident path : List ℕ) (first k : ℕ) → Walk heads resident path → k < length path → first < k →
-    is_home_open heads lens resident (slice_index path first) ≡ true → is_in_cut heads lens resident (slice_index path k) ≡ true → ⊥
+not_after : (heads : Heads) (lens : Lens) (resident path : List ℕ) (first k : ℕ) → Walk heads resident path →
+    k < length path → first < k →
+    is_home_open heads lens resident (slice_index path first) ≡ true →
+        is_in_cut heads lens resident (slice_index path k) ≡ true → ⊥
 not_after heads lens resident path first zero walk within after here is = omega arith
 not_after heads lens resident path first (suc k) walk within after here is =
     let same : suc k ≡ k + 1 = omega arith in
@@ -151,7 +162,8 @@ not_after heads lens resident path first (suc k) walk within after here is =
     ∙ stays_open_to heads lens resident path first k walk (omega arith) (omega arith) here)
     ∙ (cut_parts heads lens resident (slice_index path (k + 1)) cut).1)
 
-only_first : (heads : Heads) (lens : Lens) (resident path : List ℕ) (k : ℕ) → Walk heads resident path → k < length path →
+only_first : (heads : Heads) (lens : Lens) (resident path : List ℕ) (k : ℕ) → Walk heads resident path →
+    k < length path →
     is_in_cut heads lens resident (slice_index path k) ≡ true → k ≡ first_open heads lens resident path
 only_first heads lens resident path k walk within is =
     let first : ℕ = first_open heads lens resident path in
@@ -167,16 +179,19 @@ only_first heads lens resident path k walk within is =
           ]
     ]
 
-pub meets_once : (heads : Heads) (lens : Lens) (resident path : List ℕ) → IsInRange heads → Checked heads → IsClosed heads resident →
+pub meets_once : (heads : Heads) (lens : Lens) (resident path : List ℕ) → IsInRange heads → Checked heads →
+    IsClosed heads resident →
     IsPath heads path → MeetsOnce (cut_of heads lens resident) path
 meets_once heads lens resident path range checked closed is_path =
-    let walk : Walk heads resident path = record { range = range; checked = checked; closed = closed; is_path = is_path } in
+    let walk : Walk heads resident path = record { range = range; checked = checked; closed = closed; is_path =
+        is_path } in
     let first : ℕ = first_open heads lens resident path in
     let within = first_within heads lens resident path walk in
     record {
       place = first;
       within = within;
-      there = in_filter (is_in_cut heads lens resident) (length heads.clusters) (slice_index path first) (is_path.clusters first within)
+      there = in_filter (is_in_cut heads lens resident) (length heads.clusters) (slice_index path first)
+          (is_path.clusters first within)
           (cut_here heads lens resident (slice_index path first)
           (passes_at_first (is_home_open heads lens resident) path 0 within)
           (first_maker heads lens resident path first walk refl within));

@@ -21,7 +21,8 @@ plus_nothing w = omega (arith, ints)
 grouped : (w a b : ℤ) → w +ℤ (a +ℤ b) ≡ (w +ℤ a) +ℤ b
 grouped w a b = omega (arith, ints)
 
-pub weigh-append : {X : Type 0} (weight : X → ℤ) (xs ys : List X) → weigh weight (xs ++ ys) ≡ weigh weight xs +ℤ weigh weight ys
+pub weigh-append : {X : Type 0} (weight : X → ℤ) (xs ys : List X) →
+    weigh weight (xs ++ ys) ≡ weigh weight xs +ℤ weigh weight ys
 weigh-append weight [] ys = sym (plus_nothing (weigh weight ys))
 weigh-append weight (x ∷ xs) ys =
     ap (λ w. weight x +ℤ w) (weigh-append weight xs ys) ∙ grouped (weight x) (weigh weight xs) (weigh weight ys)
@@ -29,7 +30,8 @@ weigh-append weight (x ∷ xs) ys =
 -- over a filter
 kept_first : {X : Type 0} (weight : X → ℤ) (test : X → Bool) (x : X) (xs : List X) (b : Bool) → test x ≡ b →
     weigh weight (filter test xs) ≡ weigh (λ y. if_so (test y) (weight y)) xs →
-    weigh weight (cond b (x ∷ filter test xs) (filter test xs)) ≡ if_so b (weight x) +ℤ weigh (λ y. if_so (test y) (weight y)) xs
+    weigh weight (cond b (x ∷ filter test xs) (filter test xs)) ≡ if_so b (weight x) +ℤ weigh (λ y. if_so (test y)
+        (weight y)) xs
 kept_first weight test x xs true is rest = ap (λ w. weight x +ℤ w) rest
 kept_first weight test x xs false is rest = rest ∙ sym (plus_nothing (weigh (λ y. if_so (test y) (weight y)) xs))
 
@@ -62,9 +64,11 @@ weigh-if_so weight false xs = weigh-nothing xs
 
 -- ---- over the numbers below n
 
-pub weigh-more : (weight : ℕ → ℤ) (n : ℕ) → weigh weight (range_with_len 0 (n + 1)) ≡ weigh weight (range_with_len 0 n) +ℤ weight n
+pub weigh-more : (weight : ℕ → ℤ) (n : ℕ) → weigh weight (range_with_len 0 (n + 1)) ≡ weigh weight
+    (range_with_len 0 n) +ℤ weight n
 weigh-more weight n =
-    ap (weigh weight) (range_more n) ∙ (weigh-append weight (range_with_len 0 n) (n ∷ []) ∙ last (weigh weight (range_with_len 0 n)) (weight n)) where
+    ap (weigh weight) (range_more n) ∙ (weigh-append weight (range_with_len 0 n) (n ∷ []) ∙ last (weigh weight
+        (range_with_len 0 n)) (weight n)) where
       last : (a w : ℤ) → a +ℤ (w +ℤ pos 0) ≡ a +ℤ w
       last a w = omega (arith, ints)
 
@@ -94,7 +98,8 @@ weigh-none m n w beyond =
 no_more : (a : ℤ) → a +ℤ pos 0 ≡ a
 no_more a = omega (arith, ints)
 
-one_more : (m n : ℕ) (w : ℤ) → (m < n → weigh (λ k. if_so (m == k) w) (range_with_len 0 n) ≡ w) → (m < n) ⊎ (n ≤ m) → m < n + 1 →
+one_more : (m n : ℕ) (w : ℤ) → (m < n → weigh (λ k. if_so (m == k) w) (range_with_len 0 n) ≡ w) → (m < n) ⊎ (n ≤ m) →
+    m < n + 1 →
     weigh (λ k. if_so (m == k) w) (range_with_len 0 n) +ℤ if_so (m == n) w ≡ w
 one_more m n w sum (inl before) below =
     ap (λ b. weigh (λ k. if_so (m == k) w) (range_with_len 0 n) +ℤ if_so b w) (not_here m n (λ same. omega arith))
