@@ -109,7 +109,7 @@ unfolding home is_outgrown breaks_bound is_under holds_box
 box_reaches_out = refl
 
 -- a chain of three groups of one cluster each, on pages 0, 1 and 2, with these errors
-abbrev chain_of : ℕ → ℕ → ℕ → Heads
+abbrev pub chain_of : ℕ → ℕ → ℕ → Heads
 chain_of a b c =
     heads_of (record whole { error = a; count = 1 } ∷ record left { error = b; first = 1 } ∷ record left { error = c; page = 2; first = 2 } ∷ [])
     (made_of_two 1 ∷ made_of_two 2 ∷ leaf_of_four ∷ [])

@@ -1,5 +1,5 @@
 -- The two squares are sound: all numbers keep their ranges, and no rule is broken at any index.
-use Rattle.std.proofs.Common.{◌≡◌, ◌<◌, ◌≤◌, ℕ, Bool, true, false, ◌&&◌, cond, List, All, refl, sym, ◌∙◌, arith, nat_lt}
+use Rattle.std.proofs.Common.{◌≡◌, ◌<◌, ◌≤◌, ℕ, Bool, true, false, ◌&&◌, cond, All, refl, sym, ◌∙◌, arith, nat_lt}
 use Rattle.std.specs.List.{list_all, list_any, range_with_len}
 use Rattle.std.proofs.lemmas.Bool.{and_parts, false≢true}
 use Rattle.std.proofs.lemmas.Bool.Decides.{nat_tests}
@@ -31,7 +31,7 @@ none_before test n none place below = at (test place) refl
     at true passes = absurd (false≢true (sym none ∙ range_any test n place below passes))
     at false fails = fails
 
-none_from_search : (test : ℕ → Bool) (n : ℕ) → list_any test (range_with_len 0 n) ≡ false → ((place : ℕ) → n ≤ place → test place ≡ false) → (place : ℕ) → test place ≡ false
+pub none_from_search : (test : ℕ → Bool) (n : ℕ) → list_any test (range_with_len 0 n) ≡ false → ((place : ℕ) → n ≤ place → test place ≡ false) → (place : ℕ) → test place ≡ false
 none_from_search test n none after = none_at_all test n (none_before test n none) after
 
 pick : (b x y : Bool) → x ≡ false → y ≡ false → cond b x y ≡ false

@@ -1,6 +1,9 @@
 pub mod Internal
+pub mod Coarse
+pub mod Cuts
 pub mod Members
 pub mod Pages
+pub mod PageSets
 pub mod Ranges
 pub mod Rules
 pub mod Triangles

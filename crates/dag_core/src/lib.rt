@@ -18,6 +18,7 @@ mod breaks;
 mod check;
 mod cluster_heads;
 mod counts;
+pub mod cut_laws;
 mod dags;
 mod faults;
 mod groups;
