@@ -20,7 +20,7 @@ pub enum OpenFault {
     },
     /// The file ends before the end of the header, of the directory, or of a page that was asked for.
     Truncated {
-        /// The number of bytes that stand in the file.
+        /// The number of bytes of the file.
         at: u64,
     },
     /// The digest of the version, the counts and the directory is not the one in the header.

@@ -220,3 +220,29 @@ fn each_read_may_fail(rt: HostRuntime) -> Result<(), Fail> {
     }
     Ok(())
 }
+
+// 64 bytes that state the largest directory, of 704,643,072 bytes.
+#[test]
+fn a_header_alone_is_truncated(rt: HostRuntime) -> Result<(), Fail> {
+    let alloc = rt.alloc();
+    let header = Header {
+        version: 1,
+        counts: Counts {
+            groups: 1 << 23,
+            clusters: 1 << 23,
+            pages: 1 << 23,
+            roots: 1,
+            sources: 1,
+        },
+        digest: digest_of(&[]),
+    };
+    let file = encode_header(&header).to_vec(alloc)?;
+    let mut source = MemoryPages::of(file, Vec::new(alloc));
+    assert!(rt; answers(alloc, &mut source, truncated(64)));
+    assert!(rt; is_shared::<Opened>());
+    Ok(())
+}
+
+fn is_shared<T: Send + Sync>() -> bool {
+    true
+}

@@ -6,7 +6,7 @@ ghost use Rattle.page_sources.specs.PageReads.{PageReadDoes};
 pub enum PageGot {
     /// The buffer has the bytes from the read's place on.
     All,
-    /// The number of bytes that stand from the read's place on, fewer than the buffer takes; the buffer begins with
+    /// The number of bytes from the read's place to the end, fewer than the buffer takes; the buffer begins with
     /// them.
     Short(usize),
     /// The read failed, and the source counted a fault. The buffer may have any bytes.
