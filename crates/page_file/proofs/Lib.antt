@@ -1,0 +1,5 @@
+mod Examples
+pub mod Rules
+pub mod Steps
+pub mod Texts
+pub mod Written

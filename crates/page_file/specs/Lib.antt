@@ -1,0 +1,5 @@
+pub mod Internal
+pub mod IsOpened
+pub mod Judging
+pub mod Opening
+pub mod Refusals
