@@ -5,6 +5,9 @@ pub mod CommandWords
 pub mod DrawAnswers
 pub mod DrawWords
 pub mod DrawnItems
+pub mod MakeAnswers
+pub mod MakeExamples
+pub mod MakeWords
 pub mod NumberParts
 pub mod Numerals
 pub mod WordExamples
