@@ -1,5 +1,5 @@
 -- What an audit answers, by what the reading and the replay of a journal gave.
-use Rattle.std.proofs.Common.{◌≡◌, ◌≢◌, ◌≤◌, ◌<◌, ◌^◌, ℕ, List, length, Option, Some, None, Result, Ok, Err, true, false, inl, inr, ap, sym, subst, refl, ◌∙◌, arith}
+use Rattle.std.proofs.Common.{◌≡◌, ◌≤◌, ◌<◌, ◌^◌, ℕ, List, length, Option, Some, None, Result, Ok, Err, true, false, inl, inr, ap, sym, subst, refl, ◌∙◌, arith}
 use Rattle.std.specs.Prelude.{nat_le, IsErr, IfErr, IfSome}
 use Rattle.std.specs.Result.{IsErrAnd}
 use Rattle.journal.specs.Grammar.{journal_of}
@@ -14,11 +14,10 @@ use Rattle.residency.specs.declared.pools.ReplayFault.TheVariants as replay
 use Rattle.span_io.specs.declared.texts.TextFault.{TextFault}
 use Rattle.span_io.specs.declared.texts.TextFault.TheVariants as text
 use Rattle.geode_tool.specs.declared.commands.Command.TheVariants.{Audit}
-use Rattle.geode_tool.specs.declared.faults.Done.{Done}
 use Rattle.geode_tool.specs.declared.faults.Done.TheVariants.{Audited}
 use Rattle.geode_tool.specs.declared.faults.Fault.{Fault}
-use Rattle.geode_tool.specs.declared.faults.Fault.TheVariants.{ReadFault, TooLong, BadJournal, Illegal, WriteFault, Memory}
-use Rattle.geode_tool.specs.Audit.{audit_answer, counted, judged, verdict_text, AuditReadsUpTo, IsAudited}
+use Rattle.geode_tool.specs.declared.faults.Fault.TheVariants.{ReadFault, TooLong, Illegal, Memory}
+use Rattle.geode_tool.specs.Audit.{audit_answer, counted, judged, verdict_text, IsAudited}
 use Rattle.geode_tool.specs.Commands.{verdict_of}
 use Rattle.geode_tool.specs.FaultTable.{kind_of, IsOutside}
 use Rattle.geode_tool.specs.FaultTable.FaultKind.{Journal, Length, Outside}
@@ -184,7 +183,7 @@ pub verdict_made : (left new_left : Option (List ℕ)) (faults new_faults entrie
 verdict_made left new_left faults new_faults entries text audited shown ended no_fault = record {
   does = record { entries = entries; audited = audited; told = refl; shown = shown };
   accepted = accepted left entries audited;
-  read_to_end = ended;
+  input_read = ended;
   reads = record {
     failed = λ e. cc;
     too_long = λ e. cc;

@@ -7,7 +7,7 @@ use Rattle.journal.specs.Grammar.{number_of, digest_of, single_number_of, frame_
 use Rattle.geode_tool.specs.declared.commands.Command.TheVariants.{Audit}
 use Rattle.geode_tool.specs.declared.faults.Fault.TheVariants.{BadJournal, Illegal}
 use Rattle.geode_tool.specs.Audit.{audit_answer, verdict_text}
-use Rattle.geode_tool.specs.Words.{command_words, draw_words}
+use Rattle.geode_tool.specs.Words.{command_words, draw_words, make_words}
 
 -- the words
 pub command_words-audit : command_words (codes "audit" ∷ []) ≡ Some Audit
@@ -15,11 +15,11 @@ unfolding command_words
 command_words-audit = refl
 
 pub command_words-none : command_words [] ≡ None
-unfolding command_words draw_words
+unfolding command_words draw_words make_words
 command_words-none = refl
 
 pub command_words-more : command_words (codes "audit" ∷ codes "-" ∷ []) ≡ None
-unfolding command_words draw_words
+unfolding command_words draw_words make_words
 command_words-more = refl
 
 -- what the reading of a literal unfolds

@@ -13,7 +13,7 @@ use Rattle.geode_tool.specs.declared.commands.Command.TheVariants.{Draw}
 use Rattle.geode_tool.specs.declared.commands.DrawRequest.{DrawRequest}
 use Rattle.geode_tool.specs.declared.faults.Done.TheVariants.{Drawn}
 use Rattle.geode_tool.specs.declared.faults.Fault.{Fault}
-use Rattle.geode_tool.specs.declared.faults.Fault.TheVariants.{BadObj, Empty, Memory, ReadFault, TooLong, TooMany, WriteFault}
+use Rattle.geode_tool.specs.declared.faults.Fault.TheVariants.{Memory, ReadFault, WriteFault}
 use Rattle.geode_tool.specs.Commands.{verdict_of}
 use Rattle.geode_tool.specs.Draw.{mesh_answer, tris_or_fault, DrawReadsUpTo, IsPictureText}
 use Rattle.geode_tool.specs.FaultTable.{IsOutside}
@@ -167,7 +167,7 @@ pub picture_made : (request : DrawRequest) (left new_left : Option (List ℕ)) (
 picture_made request left new_left faults new_faults text picture ended no_fault = record {
   does = (refl, picture);
   accepted = accepted request left picture.tris picture.listed;
-  read_to_end = ended;
+  input_read = ended;
   reads = record { reading = λ why e. absurd (write-reads why e); writing = λ e. ended };
   may_fail = inl refl;
   no_fault = no_fault;

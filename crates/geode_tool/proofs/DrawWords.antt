@@ -33,11 +33,11 @@ four_words (a ∷ b ∷ c ∷ []) p q = absurd (omega arith)
 four_words (a ∷ b ∷ c ∷ d ∷ []) p q = refl
 four_words (a ∷ b ∷ c ∷ d ∷ e ∷ rest) p q = absurd (omega arith)
 
-flipped : (b c : Bool) → c ≡ not b → c ≡ true → b ≡ false
+pub flipped : (b c : Bool) → c ≡ not b → c ≡ true → b ≡ false
 flipped true c e h = absurd (cc)
 flipped false c e h = refl
 
-kept : (b c : Bool) → c ≡ not b → c ≡ false → b ≡ true
+pub kept : (b c : Bool) → c ≡ not b → c ≡ false → b ≡ true
 kept true c e h = refl
 kept false c e h = absurd (cc)
 

@@ -6,6 +6,9 @@ pub mod DrawAnswers
 pub mod DrawExamples
 pub mod DrawWords
 pub mod DrawnItems
+pub mod MakeAnswers
+pub mod MakeExamples
+pub mod MakeWords
 pub mod NumberParts
 pub mod Numerals
 pub mod WordExamples

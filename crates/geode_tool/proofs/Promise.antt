@@ -1,17 +1,16 @@
 -- What the promise of a command says, for each way that its call ends.
-use Rattle.std.proofs.Common.{◌≡◌, ◌≢◌, ◌≤◌, ◌⊎◌, ℕ, List, Bool, true, length, take, Option, Result, Ok, Err, inl, inr, sym, subst, refl, ◌∙◌, arith}
+use Rattle.std.proofs.Common.{◌≡◌, ◌≢◌, ◌≤◌, ℕ, List, Bool, true, length, take, Option, Result, Ok, Err, inl, inr, sym, subst, refl, ◌∙◌, arith}
 use Rattle.std.specs.Prelude.{IsErr, IfErr}
 use Rattle.std.specs.Result.{IsErrAnd}
 use Rattle.span_io.specs.Faults.{Rose}
 use Rattle.span_io.specs.Puts.{Appended}
-use Rattle.span_io.specs.Reads.{ReadToEnd}
 use Rattle.geode_tool.specs.declared.commands.Command.{Command}
-use Rattle.geode_tool.specs.declared.commands.Command.TheVariants.{Draw, Audit}
+use Rattle.geode_tool.specs.declared.commands.Command.TheVariants.{Draw, Audit, Make}
 use Rattle.geode_tool.specs.declared.faults.Done.{Done}
 use Rattle.geode_tool.specs.declared.faults.Fault.{Fault}
 use Rattle.geode_tool.specs.declared.faults.Fault.TheVariants.{Usage, ReadFault, TooLong, BadObj, TooMany, Empty, BadJournal, Illegal, WriteFault, Memory}
 use Rattle.geode_tool.specs.declared.faults.UsageKind.{UsageKind}
-use Rattle.geode_tool.specs.Commands.{verdict_of, Does, ReadsUpTo, TakesMemoryFirst}
+use Rattle.geode_tool.specs.Commands.{verdict_of, Does, HasRead, ReadsUpTo}
 use Rattle.geode_tool.specs.FaultTable.{IsMemory, IsOutside, MayReturn}
 use Rattle.geode_tool.specs.Headline.{Holds}
 use Rattle.geode_tool.specs.Inputs.{inputs_of, Streams, streams}
@@ -68,7 +67,7 @@ promise-refused command left new_left faults new_faults written flushed output_f
       complete = λ no_read no_write. complete-answers (verdict_of command (inputs_of left)) e (λ is. no_read (stops.cause is)) stops.no_write stops.answered;
       written = tt;
       flushed = tt;
-      read_to_end = tt;
+      input_read = tt;
       refusals = stops.may_return;
       causes = record { read_fault = stops.cause; write_fault = λ is. absurd (stops.no_write is) };
       reads = stops.reads;
@@ -82,7 +81,7 @@ promise-refused command left new_left faults new_faults written flushed output_f
 pub record IsMade (command : Command) (left new_left : Option (List ℕ)) (faults new_faults : ℕ) (done : Done) (text : List ℕ) : Type 0 where
   pub does : Does command (inputs_of left) done text
   pub accepted : Answers IsOutside (verdict_of command (inputs_of left)) (Ok done)
-  pub read_to_end : ReadToEnd left new_left
+  pub input_read : HasRead command (inputs_of left) (inputs_of new_left)
   pub reads : ReadsUpTo command (inputs_of left) (inputs_of new_left) WriteFault
   pub may_fail : MayReturn command WriteFault
   pub no_fault : new_faults ≡ faults
@@ -100,7 +99,7 @@ promise-unwritten command left new_left faults new_faults written new_written fl
       complete = λ no_read no_write. absurd (no_write rose);
       written = tt;
       flushed = tt;
-      read_to_end = tt;
+      input_read = tt;
       refusals = made.may_fail;
       causes = record { read_fault = λ other. cc; write_fault = λ same. rose };
       reads = made.reads;
@@ -122,7 +121,7 @@ promise-done command left new_left faults new_faults written new_written flushed
   complete = λ no_read no_write. success-answers (verdict_of command (inputs_of left)) done made.accepted;
   written = record { text = text; is_output = made.does; appended = appended };
   flushed = is_flushed;
-  read_to_end = made.read_to_end;
+  input_read = made.input_read;
   refusals = tt;
   causes = tt;
   reads = tt;
@@ -142,6 +141,7 @@ no_words Audit kind may = elim may [
   | inl outside ↦ cc
   | inr more ↦ elim more [ inl length ↦ cc | inr rest ↦ elim rest [ inl journal ↦ cc | inr none ↦ none ] ]
 ]
+no_words (Make request) kind may = elim may [ inl outside ↦ cc | inr none ↦ none ]
 
 pub no_usage : {K : Type 0} (command : Command) (before after : Streams K) (r : Result Done Fault) (kind : UsageKind) → Holds command before after r → r ≡ Err (Usage kind) → ⊥
 no_usage command before after r kind holds e =

@@ -4,12 +4,11 @@
 -- counts of the sources before and after; a field `partial` will say what a value inside `WriteFault` or `Memory` is.
 use Rattle.std.specs.Prelude.{◌≡◌, ◌≢◌, ◌≤◌, ℕ, true, List, Result, IfOk, IfErr, OnOk}
 use Rattle.span_io.specs.Faults.{Rose}
-use Rattle.span_io.specs.Reads.{ReadToEnd}
 use Rattle.geode_tool.specs.declared.commands.Command.{Command}
 use Rattle.geode_tool.specs.declared.faults.Done.{Done}
 use Rattle.geode_tool.specs.declared.faults.Fault.{Fault}
 use Rattle.geode_tool.specs.declared.faults.Fault.TheVariants.{ReadFault, WriteFault, Memory}
-use Rattle.geode_tool.specs.Commands.{verdict_of, Does, ReadsUpTo, TakesMemoryFirst}
+use Rattle.geode_tool.specs.Commands.{verdict_of, Does, HasRead, ReadsUpTo, TakesMemoryFirst}
 use Rattle.geode_tool.specs.FaultTable.{IsMemory, IsOutside, MayReturn}
 use Rattle.geode_tool.specs.Inputs.{Inputs, Streams}
 use Rattle.geode_tool.specs.Outputs.{LeavesPrefix, WritesAll}
@@ -48,8 +47,8 @@ pub record Holds {K : Type 0} (command : Command) (before after : Streams K) (re
   pub written : IfOk result (λ done. WritesAll (Does command before.inputs done) before.written after.written)
   -- flushed it
   pub flushed : OnOk result (after.flushed ≡ true)
-  -- and read all input
-  pub read_to_end : OnOk result (ReadToEnd before.inputs.text after.inputs.text)
+  -- and read all input, if the command takes input
+  pub input_read : OnOk result (HasRead command before.inputs after.inputs)
   -- a refusal is one that the command may return
   pub refusals : IfErr result (MayReturn command)
   -- has its cause

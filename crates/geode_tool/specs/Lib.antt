@@ -6,6 +6,7 @@ pub mod Faults
 pub mod Headline
 pub mod Inputs
 pub mod Internal
+pub mod Make
 pub mod Outputs
 pub mod Statuses
 pub mod Verdicts

@@ -1,5 +1,6 @@
--- The words of the commands: `draw` with a width, a height and a camera, and `audit` alone.
-use Rattle.std.specs.Prelude.{◌==◌, ◌&&◌, ℕ, ℤ, pos, neg_ℤ, nat_lt, nat_le, Bool, false, List, [], ◌∷◌, length, drop, slice_index, Option, Some, None, option_map, option_and_then, is_none, bytes_eq, codes, if◌then◌else◌}
+-- The words of the commands: `draw` with a width, a height and a camera, `audit` alone, and `make` with a size and a
+-- number.
+use Rattle.std.specs.Prelude.{◌==◌, ◌&&◌, ◌^◌, ℕ, ℤ, pos, neg_ℤ, nat_lt, nat_le, Bool, false, List, [], ◌∷◌, length, drop, slice_index, Option, Some, None, option_map, option_and_then, is_none, bytes_eq, codes, if◌then◌else◌}
 use Rattle.std.specs.List.{slice_split, list_all}
 use Rattle.std.specs.Char.{is_ascii_digit}
 use Rattle.std.specs.Str.{byte}
@@ -7,8 +8,10 @@ use Rattle.std.specs.Str.Parse.{digits_value}
 use Rattle.geom_core.specs.Camera.{View}
 use Rattle.geom_core.specs.Limits.{is_side}
 use Rattle.geode_tool.specs.declared.commands.Command.{Command}
-use Rattle.geode_tool.specs.declared.commands.Command.TheVariants.{Draw, Audit}
+use Rattle.geode_tool.specs.declared.commands.Command.TheVariants.{Draw, Audit, Make}
+use Rattle.geode_tool.specs.declared.commands.BoxRequest.{BoxRequest}
 use Rattle.geode_tool.specs.declared.commands.DrawRequest.{DrawRequest}
+use Rattle.shape_gen.specs.declared.lattice.TheConstants.{MAX_BOX_SIZE}
 use Rattle.view_camera.specs.CameraNumbers.{first_bad, view_of_numbers}
 
 infixl 10 ◌>>=◌
@@ -71,6 +74,38 @@ abbrev pub is_audit : List (List ℕ) → Bool
 is_audit (name ∷ []) = bytes_eq name (codes "audit")
 is_audit _ = false
 
+-- a box can have this many cells along an edge
+abbrev pub is_box_size : ℕ → Bool
+is_box_size n = nat_le 1 n && nat_le n MAX_BOX_SIZE
+
+-- the number of cells along an edge of a box
+unfoldable pub box_size : List ℕ → Option ℕ
+box_size bs = do
+  n ← whole_number 10 bs
+  if is_box_size n then Some n else None
+
+-- the number of a box
+unfoldable pub box_number : List ℕ → Option ℕ
+box_number bs = do
+  n ← whole_number 10 bs
+  if nat_lt n (2 ^ 32) then Some n else None
+
+-- the arguments of `make`, if the words are `make` and two more
+unfoldable pub make_words : List (List ℕ) → Option BoxRequest
+make_words (name ∷ size ∷ number ∷ []) =
+    if bytes_eq name (codes "make")
+    then (do
+      cells ← box_size size
+      n ← box_number number
+      Some (record { size = cells; number = n }))
+    else None
+make_words _ = None
+
+-- `make` if its arguments are there, else `draw` if its are
+abbrev pub make_or_draw : Option BoxRequest → Option DrawRequest → Option Command
+make_or_draw (Some request) drawn = Some (Make request)
+make_or_draw None drawn = option_map Draw drawn
+
 -- the command that the words ask for
 unfoldable pub command_words : List (List ℕ) → Option Command
-command_words words = if is_audit words then Some Audit else option_map Draw (draw_words words)
+command_words words = if is_audit words then Some Audit else make_or_draw (make_words words) (draw_words words)

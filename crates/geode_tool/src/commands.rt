@@ -1,20 +1,27 @@
-ghost use Rattle.std.specs.Prelude.{◌≡◌, ◌==◌, ◌^◌, ◌≤◌, ◌<◌, true, map, length, Some, IfSome};
+ghost use Rattle.std.specs.Prelude.{◌≡◌, ◌==◌, ◌^◌, ◌≤◌, ◌<◌, nat_lt, true, map, length, Some, IfSome};
 ghost use Rattle.std.specs.Char.{is_ascii_digit};
 ghost use Rattle.std.specs.List.{list_all, slice_split};
 ghost use Rattle.std.specs.Str.{byte};
 ghost use Rattle.std.specs.Str.Parse.{digits_value};
 ghost use Rattle.geom_core.specs.Limits.{is_side, IsPicture, IsSide};
+ghost use Rattle.shape_gen.specs.Lattice.{IsBoxSize};
 ghost use Rattle.geode_tool.specs.Words.{command_words, is_audit};
+ghost use Rattle.geode_tool.specs.Words.{make_words, is_box_size, box_size, box_number};
 ghost use Rattle.geode_tool.specs.Words.{draw_words, whole_number, signed_number, side, camera};
 ghost use Rattle.geode_tool.specs.Words.{is_numeral, numbers_of, fifteen};
+ghost use Rattle.geode_tool.specs.declared.commands.BoxRequest.{BoxRequest};
 ghost use Rattle.geode_tool.specs.declared.commands.DrawRequest.{DrawRequest};
 
 use geom_core::Size;
 use geom_core::limits::MAX_SIDE;
+use shape_gen::MAX_BOX_SIZE;
 use view_camera::Camera;
 
 /// The most digits of a width or a height in a command line; leading zeros count.
 const SIDE_DIGITS: usize = 10;
+
+/// The most digits of the size or the number of a box in a command line; leading zeros count.
+const BOX_DIGITS: usize = 10;
 
 /// The most digits of one of a camera's numbers; leading zeros count.
 const CAMERA_DIGITS: usize = 11;
@@ -26,6 +33,17 @@ pub enum Command {
     Draw(DrawRequest),
     /// `audit`: checks whether each entry of a journal was allowed.
     Audit,
+    /// `make`: writes the text of a box.
+    Make(BoxRequest),
+}
+
+/// The arguments of `make`.
+#[derive(Clone, Copy, Debug, PartialEq, Eq)]
+pub struct BoxRequest {
+    /// The number of cells along an edge of the box, 1 to `MAX_BOX_SIZE`.
+    pub size: u32,
+    /// The box's number, which decides how its points are moved.
+    pub number: u32,
 }
 
 /// The arguments of `draw`.
@@ -42,9 +60,14 @@ pub(crate) fn command_of(words: &[&str]) -> Option<Command>
     ensures asked { result ≡ command_words (map (λ w. w.now) words.now) }
     ensures side_range { (request : DrawRequest) → result ≡ Some (Command.Draw request)
         → IsPicture request.size }
+    ensures box_range { (request : BoxRequest) → result ≡ Some (Command.Make request)
+        → IsBoxSize request.size }
 {
     if is_audit(words) {
         return Some(Command::Audit);
+    }
+    if let Some(request) = make_of(words) {
+        return Some(Command::Make(request));
     }
     Some(Command::Draw(draw_of(words)?))
 }
@@ -77,6 +100,54 @@ fn draw_of(words: &[&str]) -> Option<DrawRequest>
     };
     let camera = camera_in(camera.as_bytes())?;
     Some(DrawRequest { size, camera })
+}
+
+/// Returns the arguments of `make`, if the words are `make`, a size and a number, each in its range.
+fn make_of(words: &[&str]) -> Option<BoxRequest>
+    ensures asked { result ≡ make_words (map (λ w. w.now) words.now) }
+    ensures box_range { IfSome result (λ request. IsBoxSize request.size) }
+{
+    let [name, size, number] = words else {
+        return None;
+    };
+    if *name != "make" {
+        return None;
+    }
+    let size = box_size(size.as_bytes())?;
+    let number = box_number(number.as_bytes())?;
+    Some(BoxRequest { size, number })
+}
+
+/// Returns the size of a box that a word gives, if it is a whole number from 1 to `MAX_BOX_SIZE`.
+fn box_size(word: &[u8]) -> Option<u32>
+    ensures number { result ≡ box_size word.now }
+    ensures box_range { IfSome result IsBoxSize }
+{
+    let number = whole_number(word, BOX_DIGITS)?;
+    if is_box_size(number) {
+        Some(number as u32)
+    } else {
+        None
+    }
+}
+
+/// Whether a box can have this many cells along an edge.
+fn is_box_size(number: u64) -> bool
+    ensures { result ≡ is_box_size number }
+{
+    1 <= number && number <= u64::from(MAX_BOX_SIZE)
+}
+
+/// Returns the number of a box that a word gives, if it is a whole number of 32 bits.
+fn box_number(word: &[u8]) -> Option<u32>
+    ensures number { result ≡ box_number word.now }
+{
+    let number = whole_number(word, BOX_DIGITS)?;
+    if number < 1 << 32 {
+        Some(number as u32)
+    } else {
+        None
+    }
 }
 
 /// Returns the width or the height that a word gives, if it is a whole number from 1 to `MAX_SIDE`.
@@ -180,13 +251,18 @@ mod tests {
 
     #[test]
     fn words_are_taken(rt: HostRuntime) {
-        let cases: [(&str, &[&str], bool); 17] = [
+        let cases: [(&str, &[&str], bool); 22] = [
             ("a drawing", &["draw", "4", "4", CAMERA], true),
             ("zeros first", &["draw", "0004", "0000000512", CAMERA], true),
             ("an audit", &["audit"], true),
             ("a word after `audit`", &["audit", CAMERA], false),
             ("`audit` in upper case", &["Audit"], false),
             ("the words of both", &["audit", "4", "4", CAMERA], false),
+            ("a box", &["make", "295", "4294967295"], true),
+            ("zeros before a box", &["make", "0001", "00"], true),
+            ("a box of 296 cells", &["make", "296", "0"], false),
+            ("33 bits", &["make", "1", "4294967296"], false),
+            ("a box with no number", &["make", "1"], false),
             ("no words", &[], false),
             ("no camera", &["draw", "4", "4"], false),
             ("too many words", &["draw", "4", "4", CAMERA, "4"], false),

@@ -18,6 +18,8 @@ pub enum Done {
         /// The number of entries of the journal.
         entries: u64,
     },
+    /// `make` wrote the text of the box.
+    Made,
 }
 
 /// What is wrong with a command line.
@@ -76,7 +78,7 @@ pub enum Fault {
     /// The output failed; a prefix of the result was written, possibly empty or complete.
     #[error("output could not be written")]
     WriteFault,
-    /// Memory ran out; nothing was written by `draw` or `audit`, which take all their memory first.
+    /// Memory ran out; nothing was written by `draw`, `audit` or `make`, which take all their memory first.
     #[error("out of memory")]
     Memory,
 }

@@ -12,13 +12,16 @@ mod commands;
 mod draw_command;
 mod draw_mesh;
 mod faults;
+mod make_command;
+#[cfg(test)]
+mod make_tests;
 mod program;
 #[cfg(test)]
 mod tests;
 mod tool;
 mod write_output;
 
-pub use commands::{Command, DrawRequest};
+pub use commands::{BoxRequest, Command, DrawRequest};
 pub use faults::{Done, Fault, UsageKind};
 pub use obj_source::ObjWhy;
 pub use program::{call, exit_status};

@@ -1,8 +1,10 @@
-ghost use Rattle.std.specs.Prelude.{◌≡◌, ◌⊎◌, None, Err, map, drop, string_bytes, IfOk, IfSome};
+ghost use Rattle.std.specs.Prelude.{◌≡◌, ◌⊎◌, Some, None, Err, map, drop, string_bytes, IfOk, IfSome};
 ghost use Rattle.geode_tool.specs.Headline.{Holds};
 ghost use Rattle.geode_tool.specs.Inputs.{streams};
 ghost use Rattle.geode_tool.specs.Statuses.{exit_status_of};
 ghost use Rattle.geode_tool.specs.Words.{command_words};
+ghost use Rattle.geode_tool.specs.declared.commands.BoxRequest.{BoxRequest};
+ghost use Rattle.geode_tool.specs.declared.commands.Command.TheVariants as Command;
 
 use crate::faults::{Done, Fault, UsageKind};
 use crate::tool::geode;
@@ -23,6 +25,9 @@ pub fn call<S: Source, K: Sink>(
         → (result ≡ Err (Fault.Usage UsageKind.Line)) ⊎ (result ≡ Err Fault.Memory) }
     ensures unchanged { command_words (map string_bytes (drop 1 args.now)) ≡ None
         → (input.new ≡ input.old) × (out.new ≡ out.old) }
+    ensures input_unchanged { (request : BoxRequest)
+        → command_words (map string_bytes (drop 1 args.now)) ≡ Some (Command.Make request)
+        → input.new ≡ input.old }
     ensures promise { IfSome (command_words (map string_bytes (drop 1 args.now))) (λ command.
         Holds command
         (streams (S.left input.old) (S.faults input.old)

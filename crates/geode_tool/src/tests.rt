@@ -147,7 +147,7 @@ pub(crate) const SOUND: Calls = Calls {
 /// What a run came to, and what the run wrote.
 #[derive(Drop)]
 pub(crate) struct Outcome {
-    /// `drawn`, `audited N`, or the line of the fault.
+    /// `drawn`, `audited N`, `made`, or the line of the fault.
     pub(crate) said: String,
     pub(crate) written: Vec<u8>,
 }
@@ -163,6 +163,7 @@ fn said(alloc: Global, answer: &Result<Done, Fault>) -> Result<String, Memory> {
     Ok(match answer {
         Ok(Done::Drawn) => format!(in alloc; "drawn")?,
         Ok(Done::Audited { entries }) => format!(in alloc; "audited {entries}")?,
+        Ok(Done::Made) => format!(in alloc; "made")?,
         Err(fault) => format!(in alloc; "{fault}")?,
     })
 }

@@ -1,12 +1,14 @@
-ghost use Rattle.std.specs.Prelude.{◌≡◌, ◌↔◌, None, Err, IfSome};
+ghost use Rattle.std.specs.Prelude.{◌≡◌, ◌↔◌, Some, None, Err, IfSome};
 ghost use Rattle.geode_tool.specs.Commands.{asked};
 ghost use Rattle.geode_tool.specs.Headline.{Holds};
 ghost use Rattle.geode_tool.specs.Inputs.{streams};
+ghost use Rattle.geode_tool.specs.declared.commands.BoxRequest.{BoxRequest};
 
 use crate::audit_command::audit;
 use crate::commands::{Command, command_of};
 use crate::draw_command::draw;
 use crate::faults::{Done, Fault, UsageKind};
+use crate::make_command::make;
 use span_io::{Sink, Source};
 use std::alloc::Global;
 
@@ -15,14 +17,15 @@ use std::alloc::Global;
 /// `words` are the command line without the program's name. `draw WIDTH HEIGHT CAMERA` reads an OBJ text
 /// and writes the picture of its triangles as rows of hexadecimal words. `audit` reads the text of a page
 /// pool's journal and writes `legal N` if each of its N entries was allowed after the entries before it.
+/// `make SIZE NUMBER` reads nothing and writes the OBJ text of a box.
 ///
 /// The promise, of which the record `Holds` in `specs/Headline.antt` has a field for each phrase:
 ///
 /// **For input whose bytes are known, a command answers their first refusal or succeeds, unless a read, a
-/// write or memory fails; a success has written exactly its text, flushed it and read all input; a refusal
-/// is one that the command may return, has its cause, comes before any further read, and leaves a prefix of
-/// such a text after a failed write or want of memory, and otherwise the output as it was; no count of
-/// failures falls, and a success changes none.**
+/// write or memory fails; a success has written exactly its text, flushed it and read all input, if the
+/// command takes input; a refusal is one that the command may return, has its cause, comes before any
+/// further read, and leaves a prefix of such a text after a failed write or want of memory, and otherwise
+/// the output as it was; no count of failures falls, and a success changes none.**
 pub fn geode<S: Source, K: Sink>(
     alloc: Global,
     words: &[&str],
@@ -33,6 +36,10 @@ pub fn geode<S: Source, K: Sink>(
     ensures usage { (result ≡ Err (Fault.Usage UsageKind.Line)) ↔ (asked words.now ≡ None) }
     ensures unchanged { asked words.now ≡ None
         → (input.new ≡ input.old) × (out.new ≡ out.old) }
+
+    // `make` leaves the input as it was.
+    ensures input_unchanged { (request : BoxRequest) → asked words.now ≡ Some (Command.Make request)
+        → input.new ≡ input.old }
 
     // Otherwise the promise holds of the command.
     ensures promise { IfSome (asked words.now) (λ command. Holds command
@@ -45,5 +52,6 @@ pub fn geode<S: Source, K: Sink>(
         None => Err(Fault::Usage(UsageKind::Line)),
         Some(Command::Draw(request)) => draw(alloc, &request, input, out),
         Some(Command::Audit) => audit(alloc, input, out),
+        Some(Command::Make(request)) => make(alloc, &request, out),
     }
 }

@@ -1,0 +1,9 @@
+pub mod ClosedBox
+pub mod Examples
+pub mod FaceLaws
+pub mod GridLaws
+pub mod LatticeLaws
+pub mod PlaceLaws
+pub mod RangeFacts
+pub mod Ranges
+pub mod Totals

@@ -1,0 +1,5 @@
+pub mod BoxText
+pub mod Boxes
+pub mod Lattice
+pub mod Order
+pub mod Sides
