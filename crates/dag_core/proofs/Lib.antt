@@ -14,3 +14,6 @@ pub mod TwoSquaresLaws
 pub mod SumLaws
 pub mod PageSetLaws
 pub mod CutExamples
+pub mod MarkLaws
+pub mod UpperMarks
+pub mod CutSteps
