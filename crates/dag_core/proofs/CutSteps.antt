@@ -1,5 +1,5 @@
 -- A cut by marks on the open groups.
-use Rattle.std.proofs.Common.{◌≡◌, ◌<◌, Bool, false, not, ◌&&◌, ℕ, List, length, get_or, map, Option, Some, None, ap, sym, ◌∙◌, refl, arith}
+use Rattle.std.proofs.Common.{◌≡◌, ◌<◌, Bool, false, not, ◌&&◌, ℕ, List, length, get_or, map, Option, Some, None, ap, ◌∙◌, refl}
 use Rattle.std.specs.List.{range_with_len}
 use Rattle.geom_core.specs.declared.views.Lens.{Lens}
 use Rattle.dag_core.specs.declared.cluster_heads.ClusterHead.{ClusterHead}

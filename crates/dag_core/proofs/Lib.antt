@@ -16,4 +16,5 @@ pub mod PageSetLaws
 pub mod CutExamples
 pub mod MarkLaws
 pub mod UpperMarks
+pub mod ClosingLaws
 pub mod CutSteps

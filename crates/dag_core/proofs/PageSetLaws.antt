@@ -1,6 +1,6 @@
 -- Sets of pages: what is in one, and that the set of all pages is closed.
-use Rattle.std.proofs.Common.{◌≡◌, ◌==◌, ◌<◌, ◌≤◌, ℕ, Bool, true, false, List, length, IsTrue, arith}
-use Rattle.std.specs.List.{list_any, range_with_len}
+use Rattle.std.proofs.Common.{◌≡◌, ◌==◌, ◌<◌, ℕ, true, arith}
+use Rattle.std.specs.List.{range_with_len}
 use Rattle.std.proofs.lemmas.Bool.Decides.{nat_tests}
 use Rattle.dag_core.specs.declared.heads.Heads.{Heads}
 use Rattle.dag_core.specs.PageSets.{IsClosed, has_page}

@@ -1,5 +1,5 @@
 -- The cut of a DAG: the clusters that are drawn through a lens while these pages are resident.
-use Rattle.std.specs.Prelude.{◌≡◌, Bool, true, false, not, ◌&&◌, ◌||◌, ℕ, ◌+◌, ◌<◌, List, [], ◌∷◌, length, map, filter, flat_map, Option, Some, None, IsTrue, slice_index}
+use Rattle.std.specs.Prelude.{◌≡◌, Bool, false, not, ◌&&◌, ◌||◌, ℕ, ◌+◌, ◌<◌, List, length, map, filter, flat_map, Option, Some, None, IsTrue, slice_index}
 use Rattle.std.specs.List.{enumerate_from}
 use Rattle.geom_core.specs.declared.triangles.Tri.{Tri}
 use Rattle.geom_core.specs.declared.views.Lens.{Lens}

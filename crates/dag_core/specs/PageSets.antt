@@ -3,7 +3,6 @@ use Rattle.std.specs.Prelude.{Bool, false, not, ◌||◌, ◌==◌, ℕ, zero, s
 use Rattle.std.specs.List.{list_any, range_with_len}
 use Rattle.std.specs.List.Sorted.{IsStrictlyIncreasing}
 use Rattle.geom_core.specs.declared.views.Lens.{Lens}
-use Rattle.dag_core.specs.declared.groups.Group.{Group}
 use Rattle.dag_core.specs.declared.heads.Heads.{Heads}
 use Rattle.dag_core.specs.Coarse.{is_coarse_group}
 use Rattle.dag_core.specs.Pages.{is_upper, uppers_of}

@@ -15,7 +15,9 @@
 #![tactic(auto)]
 
 mod breaks;
+mod chains;
 mod check;
+mod closing;
 mod cluster_heads;
 mod counts;
 mod cuts;
