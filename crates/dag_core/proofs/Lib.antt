@@ -23,3 +23,7 @@ pub mod PageSetLaws
 pub mod PathLaws
 pub mod CutExamples
 pub mod CutLawExamples
+pub mod MarkLaws
+pub mod UpperMarks
+pub mod ClosingLaws
+pub mod CutSteps

@@ -1,4 +1,5 @@
 -- What only clauses of this crate's own functions name: tables, and the answers of searches.
 pub mod FirstPlaces
+pub mod Marks
 pub mod RangeTests
 pub mod Tables

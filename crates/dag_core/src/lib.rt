@@ -15,11 +15,15 @@
 #![tactic(auto)]
 
 mod breaks;
+mod chains;
 mod check;
+mod closing;
 mod cluster_heads;
 mod counts;
 pub mod cut_laws;
+mod cuts;
 mod dags;
+mod detail;
 mod faults;
 mod groups;
 mod heads;
@@ -28,10 +32,12 @@ pub mod laws;
 mod marks;
 mod page_tables;
 mod ranges;
+mod uppers;
 
 pub use cluster_heads::{ClusterHead, ClusterHeads};
 pub use counts::Counts;
 pub use dags::{ClusterTris, Dag};
+pub use detail::coarse;
 pub use faults::CheckFault;
 pub use groups::{Group, Groups};
 pub use heads::Heads;

@@ -1,8 +1,9 @@
-ghost use Rattle.std.specs.Prelude.{◌≡◌, ◌||◌, ◌<◌, ◌+◌, ◌^◌, ◌==◌, ℕ, IfOk, false, length, replicate, slice_index, slice_index_or, if◌then◌else◌};
+ghost use Rattle.std.specs.Prelude.{◌≡◌, ◌||◌, ◌<◌, ◌≤◌, ◌+◌, ◌^◌, ◌==◌, ℕ, IfOk, false, length, replicate, slice_index, slice_index_or, if◌then◌else◌};
 ghost use Rattle.std.specs.Option.{ForSome};
+ghost use Rattle.dag_core.specs.Internal.Marks.{marked_of};
 ghost use Rattle.dag_core.specs.Members.{is_maker};
 
-use geom_core::Memory;
+use geom_core::{Memory, Nums};
 use std::alloc::Global;
 
 /// Returns this many marks, none of them set.
@@ -23,6 +24,20 @@ pub(crate) fn mark(marks: &mut Vec<bool>, place: Option<u32>)
         None => {}
         Some(place) => marks[place as usize] = true,
     }
+}
+
+/// Returns the marked numbers, ascending.
+pub(crate) fn marked(alloc: Global, marks: &[bool]) -> Result<Nums, Memory>
+    requires count_limit { length marks.now ≤ 2 ^ 32 }
+    ensures marked { IfOk result (λ numbers. numbers ≡ marked_of marks.now) }
+{
+    let mut numbers = Vec::new(alloc);
+    for k in 0..marks.len() {
+        if marks[k] {
+            numbers.push(k as u32)?;
+        }
+    }
+    Ok(Nums::of(numbers))
 }
 
 /// Adds to the sum at a place.
