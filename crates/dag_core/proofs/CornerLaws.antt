@@ -64,7 +64,7 @@ near_corners : (dag : Dag) (c : ℕ) → Sound dag → c < length dag.heads.clus
 unfolding breaks_corners
 near_corners dag c sound below =
     within_test c (length dag.heads.clusters) (list_all (is_near_source dag (error_of dag.heads c))
-        (tris_at dag c)) below (sound.rules 8 c)
+    (tris_at dag c)) below (sound.rules 8 c)
 
 first_of_all : (near : Tagged → Bool) (leaves : List Tagged) (other : Tri) → length leaves ≡ 1 →
     list_all near leaves ≡ true →
@@ -78,7 +78,7 @@ near_one : (dag : Dag) (most : ℕ) (t : Tagged) (other : Tri) → Sound dag →
 unfolding is_near_source
 near_one dag most t other sound below near =
     let leaf = first_of_all (λ s. is_near most t.tri s.tri) (leaf_tris_from dag t.source) other
-        (one_leaf dag t.source sound below) near in
+    (one_leaf dag t.source sound below) near in
     let there : slice_index_or (source_of dag) t.source other ≡ get_or (tris_of (leaf_tris_from dag t.source)) 0 other =
     single_at (λ source. tris_of (leaf_tris_from dag source)) dag.heads.sources t.source other
     (λ s within. length-map (leaf_tris_from dag s) (λ (t : Tagged). t.tri) ∙ one_leaf dag s sound within) below in

@@ -52,7 +52,7 @@ sum_in dag clusters u v =
 -- the triangles of a cut, under a choice of triangles
 items-tris : (c n : ℕ) (tris : List Tri) →
     map (λ (item : Item). item.tri) (map (λ (k, t). record { cluster = c; place = k; tri = t })
-        (enumerate_from n tris)) ≡ tris
+    (enumerate_from n tris)) ≡ tris
 items-tris c n [] = refl
 items-tris c n (t ∷ tris) = ap (λ ts. t ∷ ts) (items-tris c (n + 1) tris)
 
@@ -60,7 +60,7 @@ pub cut_tris-lists : (tris : ℕ → List Tri) (cut : List ℕ) → cut_tris tri
 cut_tris-lists tris [] = refl
 cut_tris-lists tris (c ∷ cut) =
     map-append (λ (item : Item). item.tri) (map (λ (k, t). record { cluster = c; place = k; tri = t })
-        (enumerate_from 0 (tris c))) (cut_items tris cut)
+    (enumerate_from 0 (tris c))) (cut_items tris cut)
     ∙ (ap (λ ts. ts ++ cut_tris tris cut) (items-tris c 0 (tris c)) ∙ ap (λ ts. tris c ++ ts) (cut_tris-lists tris cut))
 
 -- ---- what is left of groups
@@ -80,9 +80,9 @@ group_sums : (dag : Dag) (g : ℕ) (u v : Pt) → Sound dag → g < length dag.h
 unfolding breaks_sums
 group_sums dag g u v sound below goes_on =
     let same = have_same_sums (tris_of (tris_in dag (members dag.heads g))) (tris_of (tris_in dag
-        (made_by dag.heads g))) in
+    (made_by dag.heads g))) in
     let kept = below_test g (length dag.heads.groups) (not (group_at dag.heads g).terminal && not same) below
-        (sound.rules 6 g) in
+    (sound.rules 6 g) in
     sym (sum_in dag (members dag.heads g) u v)
     ∙ (sums_agree (tris_of (tris_in dag (members dag.heads g))) (tris_of (tris_in dag (made_by dag.heads g)))
     (keeps_sums (group_at dag.heads g).terminal same kept goes_on) u v
@@ -97,7 +97,7 @@ none_by : (heads : Heads) (g c : ℕ) → Checked heads → g < length heads.gro
 unfolding has_made
 none_by heads g c checked below terminal within =
     let none = nothing_made (group_at heads g).terminal (has_made heads g) (sym (terminal_at heads g below)
-        ∙ checked 3 g) terminal in
+    ∙ checked 3 g) terminal in
     false_from_ne_true (is_made_by g (cluster_at heads c))
     (λ made. true≢false (sym (list_any_at (is_made_by g) heads.clusters c no_cluster within made) ∙ none))
 
@@ -107,7 +107,7 @@ no_made : (dag : Dag) (g : ℕ) (u v : Pt) → Checked dag.heads → g < length 
 no_made dag g u v checked below terminal =
     weigh-filter (sum_at dag u v) (λ c. is_made_by g (cluster_at dag.heads c)) (all_clusters dag.heads)
     ∙ (weigh-alike (λ c. if_so (is_made_by g (cluster_at dag.heads c)) (sum_at dag u v c)) (λ c. pos 0)
-        (length dag.heads.clusters)
+    (length dag.heads.clusters)
     (λ c within. ap (λ b. if_so b (sum_at dag u v c)) (none_by dag.heads g c checked below terminal within))
     ∙ weigh-nothing (all_clusters dag.heads))
 
@@ -116,7 +116,7 @@ no_made dag g u v checked below terminal =
 maker_of : (heads : Heads) (lens : Lens) (resident : List ℕ) (c : ℕ) (made : Option ℕ) → IsInRange heads →
     Checked heads → IsClosed heads resident →
     c < length heads.clusters → (cluster_at heads c).made ≡ made →
-        is_made_open (is_open heads lens resident) made ≡ true →
+    is_made_open (is_open heads lens resident) made ≡ true →
     is_open heads lens resident (home heads c) ≡ true
 maker_of heads lens resident c None range checked closed below made is = absurd (true≢false (sym is))
 maker_of heads lens resident c (Some m) range checked closed below made is =
@@ -135,7 +135,7 @@ cut_is : (heads : Heads) (lens : Lens) (resident : List ℕ) →
 cut_is heads lens resident =
     filter_alike (is_in_cut heads lens resident) (is_cut heads (is_open heads lens resident)) (length heads.clusters)
     (λ c below. both_alike (is_open heads lens resident (home heads c)) _ _ _ refl (same_maker heads lens resident
-        (cluster_at heads c).made))
+    (cluster_at heads c).made))
 
 leaf_is : (made : Option ℕ) → is_none made ≡ (true && not (is_made_open (λ g. true) made))
 leaf_is None = refl
@@ -205,7 +205,7 @@ leaf_sources dag sound =
 pub cuts_keep_edge_sums : (dag : Dag) (lens : Lens) (resident : List ℕ) (u v : Pt) → Sound dag →
     IsClosed dag.heads resident →
     edge_sum (cut_tris (λ c. tris_of (tris_at dag c)) (cut_of dag.heads lens resident)) u v ≡ edge_sum
-        (source_of dag) u v
+    (source_of dag) u v
 cuts_keep_edge_sums dag lens resident u v sound closed =
     ap (λ tris. edge_sum tris u v) (cut_tris-lists (λ c. tris_of (tris_at dag c)) (cut_of dag.heads lens resident))
     ∙ (edge_sum-lists (λ c. tris_of (tris_at dag c)) (cut_of dag.heads lens resident) u v

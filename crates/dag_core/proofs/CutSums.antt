@@ -48,7 +48,7 @@ weigh-later : (weight : ℕ → ℤ) (a n : ℕ) → weigh weight (range_with_le
 weigh-later weight a n =
     ap (weigh weight) (one_later a n)
     ∙ (weigh-append weight (range_with_len a n) ((a + n) ∷ []) ∙ last_weight (weigh weight (range_with_len a n))
-        (weight (a + n)))
+    (weight (a + n)))
 
 -- the numbers below a + n are those below a and the n from a on
 weigh-joined : (weight : ℕ → ℤ) (a n : ℕ) →
@@ -76,7 +76,7 @@ alike-later weight other a (suc n) same =
     (weigh-later weight a n
     ∙ (ap (λ w. w +ℤ weight (a + n)) (alike-later weight other a n (λ k from below. same k from (omega arith)))
     ∙ (ap (λ w. weigh other (range_with_len a n) +ℤ w) (same (a + n) (omega arith) (omega arith)) ∙ sym
-        (weigh-later other a n))))
+    (weigh-later other a n))))
 
 -- ---- by homes
 
@@ -136,9 +136,9 @@ makers_of_one : (heads : Heads) (open_group : ℕ → Bool) (weight : ℕ → �
     +ℤ weigh (made_weight heads open_group weight clusters) (range_with_len 0 (length heads.groups))
 makers_of_one heads open_group weight c clusters None is below =
     weigh-alike (made_weight heads open_group weight (c ∷ clusters)) (made_weight heads open_group weight clusters)
-        (length heads.groups)
+    (length heads.groups)
     (λ g within. ap (λ made. if_so (open_group g) (weigh weight (cond (is_maker g made) (c ∷ filter
-        (λ d. is_made_by g (cluster_at heads d)) clusters)
+    (λ d. is_made_by g (cluster_at heads d)) clusters)
     (filter (λ d. is_made_by g (cluster_at heads d)) clusters)))) is)
     ∙ before (weigh (made_weight heads open_group weight clusters) (range_with_len 0 (length heads.groups))) where
       before : (b : ℤ) → b ≡ pos 0 +ℤ b
@@ -146,14 +146,14 @@ makers_of_one heads open_group weight c clusters None is below =
 makers_of_one heads open_group weight c clusters (Some m) is below =
     weigh-alike (made_weight heads open_group weight (c ∷ clusters))
     (λ g. if_so (m == g) (if_so (open_group m) (weight c)) +ℤ made_weight heads open_group weight clusters g)
-        (length heads.groups)
+    (length heads.groups)
     (λ g within.
     ap (λ made. if_so (open_group g) (weigh weight (cond (is_maker g made) (c ∷ filter (λ d. is_made_by g
-        (cluster_at heads d)) clusters)
+    (cluster_at heads d)) clusters)
     (filter (λ d. is_made_by g (cluster_at heads d)) clusters)))) is
     ∙ (ap (if_so (open_group g)) (weighed (m == g) (filter (λ d. is_made_by g (cluster_at heads d)) clusters))
     ∙ made_alone m g open_group (weight c) (weigh weight (filter (λ d. is_made_by g (cluster_at heads d)) clusters))
-        (m == g) refl))
+    (m == g) refl))
     ∙ (weigh-plus (λ g. if_so (m == g) (if_so (open_group m) (weight c))) (made_weight heads open_group weight clusters)
     (range_with_len 0 (length heads.groups))
     ∙ ap (λ w. w +ℤ weigh (made_weight heads open_group weight clusters) (range_with_len 0 (length heads.groups)))
@@ -169,7 +169,7 @@ makers_of : (heads : Heads) (open_group : ℕ → Bool) (weight : ℕ → ℤ) (
     ≡ weigh (λ c. if_so (is_made_open open_group (cluster_at heads c).made) (weight c)) clusters
 makers_of heads open_group weight [] range below =
     weigh-alike (made_weight heads open_group weight []) (λ g. pos 0) (length heads.groups) (λ g within. nothing
-        (open_group g))
+    (open_group g))
     ∙ weigh-nothing (range_with_len 0 (length heads.groups)) where
       nothing : (b : Bool) → if_so b (pos 0) ≡ pos 0
       nothing true = refl
@@ -177,7 +177,7 @@ makers_of heads open_group weight [] range below =
 makers_of heads open_group weight (c ∷ clusters) range below =
     let here = All-head (λ c. c < length heads.clusters) c clusters below in
     makers_of_one heads open_group weight c clusters (cluster_at heads c).made refl
-        (λ m made. maker_below heads c m range here made)
+    (λ m made. maker_below heads c m range here made)
     ∙ ap (λ w. if_so (is_made_open open_group (cluster_at heads c).made) (weight c) +ℤ w)
     (makers_of heads open_group weight clusters range (All-tail (λ c. c < length heads.clusters) c clusters below))
 
@@ -224,7 +224,7 @@ all_below n =
 abbrev pub terminal_weight : Heads → (ℕ → ℤ) → ℤ
 terminal_weight heads weight =
     weigh (λ g. if_so (group_at heads g).terminal (weigh weight (members heads g))) (range_with_len 0
-        (length heads.groups))
+    (length heads.groups))
 
 pub cut_weight : (heads : Heads) (open_group : ℕ → Bool) (weight : ℕ → ℤ) → IsInRange heads → AreMembersInTurn heads →
     Opens heads open_group weight →
@@ -240,22 +240,22 @@ cut_weight heads open_group weight range turn opens =
     sym (weigh-plus cut made (range_with_len 0 n))
     ∙ weigh-alike (λ c. cut c +ℤ made c) at_home n
     (λ c below. cut_or_made (open_group (home heads c)) (is_made_open open_group (cluster_at heads c).made)
-        (weight c) (opens.home c below)) in
+    (weight c) (opens.home c below)) in
     let homes : weigh at_home (range_with_len 0 n)
     ≡ weigh (λ g. if_so (open_group g) (weigh weight (members heads g))) (range_with_len 0 groups) =
     ap (λ k. weigh at_home (range_with_len 0 k)) (sym (members_are_all heads turn))
     ∙ by_homes heads open_group weight groups turn (omega arith) in
     let groups_alike : weigh (λ g. if_so (open_group g) (weigh weight (members heads g))) (range_with_len 0 groups)
     ≡ weigh terminal (range_with_len 0 groups) +ℤ weigh (made_weight heads open_group weight (all_clusters heads))
-        (range_with_len 0 groups) =
+    (range_with_len 0 groups) =
     weigh-alike (λ g. if_so (open_group g) (weigh weight (members heads g)))
     (λ g. terminal g +ℤ made_weight heads open_group weight (all_clusters heads) g) groups
     (λ g below. terminal_or_made (group_at heads g).terminal (open_group g) (weigh weight (members heads g))
-        (weigh weight (made_by heads g))
+    (weigh weight (made_by heads g))
     (opens.terminal g below) (opens.same g below) (opens.none g below))
     ∙ weigh-plus terminal (made_weight heads open_group weight (all_clusters heads)) (range_with_len 0 groups) in
     let makers = makers_of heads open_group weight (all_clusters heads) range (all_below n) in
     weigh-filter weight (is_cut heads open_group) (all_clusters heads)
     ∙ cancelled (weigh cut (range_with_len 0 n)) (weigh made (range_with_len 0 n)) (weigh terminal
-        (range_with_len 0 groups))
+    (range_with_len 0 groups))
     (both ∙ (homes ∙ (groups_alike ∙ ap (λ w. weigh terminal (range_with_len 0 groups) +ℤ w) makers)))

@@ -77,10 +77,10 @@ open_alike heads lens need resident g range checked is_need enough below =
     let group : Group = group_at heads g in
     let bounds = group_bounds heads g range below in
     same_open (has_page resident group.page) (has_page (range_with_len 0 heads.pages) group.page) group.terminal
-        (is_coarse_group lens group)
+    (is_coarse_group lens group)
     (in_all heads.pages group.page bounds.page)
     (λ terminal. enough group.page (is_need.closed.roots group.page
-        (terminal_is_root heads g range checked below terminal)))
+    (terminal_is_root heads g range checked below terminal)))
     (λ coarse. enough group.page (is_need.seeded group.page (coarse_seed heads lens g below coarse)))
 
 maker_alike : (heads : Heads) (lens : Lens) (need resident : List ℕ) (c : ℕ) (made : Option ℕ) → IsInRange heads →
@@ -101,7 +101,7 @@ pub need_is_enough : (heads : Heads) (lens : Lens) (need resident : List ℕ) �
 need_is_enough heads lens need resident range checked is_need enough =
     let turn = in_turn heads (λ rule index below. checked rule index) in
     filter_alike (is_in_cut heads lens resident) (is_in_cut heads lens (range_with_len 0 heads.pages))
-        (length heads.clusters)
+    (length heads.clusters)
     (λ c below. both_alike _ _ _ _
     (open_alike heads lens need resident (home heads c) range checked is_need enough (home_below heads c turn below))
     (maker_alike heads lens need resident c (cluster_at heads c).made range checked is_need enough below refl))

@@ -53,7 +53,7 @@ coarse_grows error greater box wider lens le corners holds coarse =
     let left = wider_product lens.tolerance (box_distance wider lens.eye) (box_distance box lens.eye) near in
     let right = greater_product error greater lens.focal le in
     let below = below_test (lens.tolerance * max 1 (box_distance box lens.eye))
-        (error * lens.focal * SUBPIXELS) coarse in
+    (error * lens.focal * SUBPIXELS) coarse in
     test_below (lens.tolerance * max 1 (box_distance wider lens.eye)) (greater * lens.focal * SUBPIXELS) (omega arith)
 
 same_number : (p : ℕ) → (p == p) ≡ true
@@ -67,9 +67,9 @@ terminal_on : (heads : Heads) (g : ℕ) → g < length heads.groups → IsTrue (
 unfolding has_terminal_on
 terminal_on heads g below terminal =
     list_any_at (λ (group : Group). group.terminal && group.page ==
-        (group_at heads g).page) heads.groups g no_group below
+    (group_at heads g).page) heads.groups g no_group below
     (and_from (group_at heads g).terminal ((group_at heads g).page == (group_at heads g).page) terminal (grind
-        (arith, nat_tests)))
+    (arith, nat_tests)))
 
 root_page : (roots p : ℕ) (counts later : Bool) → (not counts || nat_le roots p && true || later) ≡ false → p < roots
 root_page roots p true later kept = grind (arith, nat_tests)
@@ -84,7 +84,7 @@ terminal_is_root heads g range checked below terminal =
     let kept = sym (page_at heads p page.page) ∙ checked 5 p in
     root_page heads.roots p (is_count_to PAGE_TRIANGLES (tris_on heads p)) (list_any (nat_lt p) (uppers_of heads p))
     (subst (λ b. (not (is_count_to PAGE_TRIANGLES (tris_on heads p)) || nat_le heads.roots p && b || list_any
-        (nat_lt p) (uppers_of heads p)) ≡ false)
+    (nat_lt p) (uppers_of heads p)) ≡ false)
     (terminal_on heads g below terminal) kept)
 
 -- a group that made a cluster isn't terminal
@@ -168,20 +168,20 @@ home_page heads resident c m closed below made has =
 
 open_parts : (heads : Heads) (lens : Lens) (resident : List ℕ) (g : ℕ) → is_open heads lens resident g ≡ true →
     (has_page resident (group_at heads g).page ≡ true) × (((group_at heads g).terminal || is_coarse_group lens
-        (group_at heads g)) ≡ true)
+    (group_at heads g)) ≡ true)
 unfolding is_open
 open_parts heads lens resident g is =
     and_parts (has_page resident (group_at heads g).page) ((group_at heads g).terminal || is_coarse_group lens
-        (group_at heads g)) is
+    (group_at heads g)) is
 
 open_from : (heads : Heads) (lens : Lens) (resident : List ℕ) (g : ℕ) →
     has_page resident (group_at heads g).page ≡ true →
     ((group_at heads g).terminal || is_coarse_group lens (group_at heads g)) ≡ true →
-        is_open heads lens resident g ≡ true
+    is_open heads lens resident g ≡ true
 unfolding is_open
 open_from heads lens resident g has detail =
     and_from (has_page resident (group_at heads g).page) ((group_at heads g).terminal || is_coarse_group lens
-        (group_at heads g)) has detail
+    (group_at heads g)) has detail
 
 whatever : (a b : Bool) → true ≡ false → a ≡ b
 whatever true true contrary = refl
@@ -205,7 +205,7 @@ terminal_is_open heads lens resident g range checked closed below terminal =
     open_from heads lens resident g
     (closed.roots (group_at heads g).page (terminal_is_root heads g range checked below terminal))
     (or_by (group_at heads g).terminal (is_coarse_group lens (group_at heads g)) (λ fails. whatever
-        (is_coarse_group lens (group_at heads g)) true (sym terminal ∙ fails)))
+    (is_coarse_group lens (group_at heads g)) true (sym terminal ∙ fails)))
 
 -- where the maker of a cluster is open, so is its home
 pub home_is_open : (heads : Heads) (lens : Lens) (resident : List ℕ) (c m : ℕ) → IsInRange heads → Checked heads →

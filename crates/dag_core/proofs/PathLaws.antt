@@ -34,14 +34,14 @@ in_filter test n c below passes =
 pub from_filter : (test : ℕ → Bool) (n c : ℕ) → has_cluster (filter test (range_with_len 0 n)) c ≡ true → test c ≡ true
 from_filter test n c has =
     let found = range_found (λ d. test d && d == c) n (sym (list_any-filter (λ d. d == c) test (range_with_len 0 n))
-        ∙ has) in
+    ∙ has) in
     let both = and_parts (test found.number) (found.number == c) found.passes in
     subst (λ d. test d ≡ true) (is_same found.number c both.1) both.0
 
 pub below_filter : (test : ℕ → Bool) (n c : ℕ) → has_cluster (filter test (range_with_len 0 n)) c ≡ true → c < n
 below_filter test n c has =
     let found = range_found (λ d. test d && d == c) n (sym (list_any-filter (λ d. d == c) test (range_with_len 0 n))
-        ∙ has) in
+    ∙ has) in
     let both = and_parts (test found.number) (found.number == c) found.passes in
     subst (λ d. d < n) (is_same found.number c both.1) found.below
 
@@ -79,7 +79,7 @@ next_maker heads lens resident path k is_path below =
 stays_open : (heads : Heads) (lens : Lens) (resident path : List ℕ) (k more : ℕ) → Walk heads resident path →
     k + more < length path →
     is_home_open heads lens resident (slice_index path k) ≡ true →
-        is_home_open heads lens resident (slice_index path (k + more)) ≡ true
+    is_home_open heads lens resident (slice_index path (k + more)) ≡ true
 stays_open heads lens resident path k zero walk below here =
     let same : k ≡ k + 0 = omega arith in
     subst (λ n. is_home_open heads lens resident (slice_index path n) ≡ true) same here
@@ -136,7 +136,7 @@ cut_here : (heads : Heads) (lens : Lens) (resident : List ℕ) (c : ℕ) → is_
     is_maker_open heads lens resident (cluster_at heads c).made ≡ false → is_in_cut heads lens resident c ≡ true
 cut_here heads lens resident c home_open no_maker =
     and_from (is_home_open heads lens resident c) (not (is_maker_open heads lens resident
-        (cluster_at heads c).made)) home_open (ap not no_maker)
+    (cluster_at heads c).made)) home_open (ap not no_maker)
 
 negated : (b : Bool) → not b ≡ true → b ≡ false
 negated true is = sym is
@@ -146,14 +146,14 @@ cut_parts : (heads : Heads) (lens : Lens) (resident : List ℕ) (c : ℕ) → is
     (is_home_open heads lens resident c ≡ true) × (is_maker_open heads lens resident (cluster_at heads c).made ≡ false)
 cut_parts heads lens resident c is =
     let both = and_parts (is_home_open heads lens resident c) (not (is_maker_open heads lens resident
-        (cluster_at heads c).made)) is in
+    (cluster_at heads c).made)) is in
     (both.0, negated (is_maker_open heads lens resident (cluster_at heads c).made) both.1)
 
 -- a place of the cut is not after the first
 not_after : (heads : Heads) (lens : Lens) (resident path : List ℕ) (first k : ℕ) → Walk heads resident path →
     k < length path → first < k →
     is_home_open heads lens resident (slice_index path first) ≡ true →
-        is_in_cut heads lens resident (slice_index path k) ≡ true → ⊥
+    is_in_cut heads lens resident (slice_index path k) ≡ true → ⊥
 not_after heads lens resident path first zero walk within after here is = omega arith
 not_after heads lens resident path first (suc k) walk within after here is =
     let same : suc k ≡ k + 1 = omega arith in
@@ -183,8 +183,13 @@ pub meets_once : (heads : Heads) (lens : Lens) (resident path : List ℕ) → Is
     IsClosed heads resident →
     IsPath heads path → MeetsOnce (cut_of heads lens resident) path
 meets_once heads lens resident path range checked closed is_path =
-    let walk : Walk heads resident path = record { range = range; checked = checked; closed = closed; is_path =
-        is_path } in
+    let walk : Walk heads resident path = record {
+      range = range;
+      checked = checked;
+      closed = closed;
+      is_path =
+          is_path;
+    } in
     let first : ℕ = first_open heads lens resident path in
     let within = first_within heads lens resident path walk in
     record {

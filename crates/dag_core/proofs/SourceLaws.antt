@@ -25,7 +25,7 @@ from_source tris source = tris_of (filter (λ t. t.source == source) tris)
 
 first_from : (t : Tagged) (tris : List Tagged) (source : ℕ) (u v : Pt) (same : Bool) →
     edge_sum (tris_of (cond same (t ∷ filter (λ s. s.source == source) tris) (filter
-        (λ s. s.source == source) tris))) u v
+    (λ s. s.source == source) tris))) u v
     ≡ if_so same (edge_sum (t.tri ∷ []) u v) +ℤ edge_sum (from_source tris source) u v
 first_from t tris source u v true = edge_sum-append (t.tri ∷ []) (from_source tris source) u v
 first_from t tris source u v false = nothing (edge_sum (from_source tris source) u v) where
@@ -45,17 +45,17 @@ by_sources (t ∷ tris) n u v below =
     (λ source. if_so (t.source == source) (edge_sum (t.tri ∷ []) u v) +ℤ edge_sum (from_source tris source) u v) n
     (λ source within. first_from t tris source u v (t.source == source))
     ∙ (weigh-plus (λ source. if_so (t.source == source) (edge_sum (t.tri ∷ []) u v)) (λ source. edge_sum
-        (from_source tris source) u v)
+    (from_source tris source) u v)
     (range_with_len 0 n)
     ∙ (ap (λ w. w +ℤ weigh (λ source. edge_sum (from_source tris source) u v) (range_with_len 0 n))
     (weigh-one t.source n (edge_sum (t.tri ∷ []) u v) (All-head (λ (t : Tagged). t.source < n) t tris below))
     ∙ (ap (λ w. edge_sum (t.tri ∷ []) u v +ℤ w) (by_sources tris n u v (All-tail (λ
-        (t : Tagged). t.source < n) t tris below))
+    (t : Tagged). t.source < n) t tris below))
     ∙ sym (edge_sum-append (t.tri ∷ []) (tris_of tris) u v))))
 
 -- the triangles by their sources have the edge sums of the triangles
 pub edge_sum-by_sources : (tris : List Tagged) (n : ℕ) (u v : Pt) → All (λ t. t.source < n) tris →
     edge_sum (flat_map (λ source. tris_of (filter (λ t. t.source == source) tris))
-        (range_with_len 0 n)) u v ≡ edge_sum (tris_of tris) u v
+    (range_with_len 0 n)) u v ≡ edge_sum (tris_of tris) u v
 edge_sum-by_sources tris n u v below =
     edge_sum-lists (λ source. from_source tris source) (range_with_len 0 n) u v ∙ by_sources tris n u v below

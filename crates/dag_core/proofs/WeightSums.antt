@@ -31,7 +31,7 @@ weigh-append weight (x ∷ xs) ys =
 kept_first : {X : Type 0} (weight : X → ℤ) (test : X → Bool) (x : X) (xs : List X) (b : Bool) → test x ≡ b →
     weigh weight (filter test xs) ≡ weigh (λ y. if_so (test y) (weight y)) xs →
     weigh weight (cond b (x ∷ filter test xs) (filter test xs)) ≡ if_so b (weight x) +ℤ weigh (λ y. if_so (test y)
-        (weight y)) xs
+    (weight y)) xs
 kept_first weight test x xs true is rest = ap (λ w. weight x +ℤ w) rest
 kept_first weight test x xs false is rest = rest ∙ sym (plus_nothing (weigh (λ y. if_so (test y) (weight y)) xs))
 
@@ -68,7 +68,7 @@ pub weigh-more : (weight : ℕ → ℤ) (n : ℕ) → weigh weight (range_with_l
     (range_with_len 0 n) +ℤ weight n
 weigh-more weight n =
     ap (weigh weight) (range_more n) ∙ (weigh-append weight (range_with_len 0 n) (n ∷ []) ∙ last (weigh weight
-        (range_with_len 0 n)) (weight n)) where
+    (range_with_len 0 n)) (weight n)) where
       last : (a w : ℤ) → a +ℤ (w +ℤ pos 0) ≡ a +ℤ w
       last a w = omega (arith, ints)
 
