@@ -7,13 +7,13 @@ use Rattle.pool_rules.specs.declared.next_load.Next.TheVariants.{Take}
 use Rattle.journal.specs.Layout.{page_numbers}
 use Rattle.pool_rules.specs.Next.{is_want_for, can_take, is_takeable, first_takeable, first_loading, next_with, next_at, busy_with, next_without, next_of, next_in, same_victim, is_take}
 use Rattle.pool_rules.specs.State.{State, held_count}
-use Rattle.pool_rules.specs.Victim.{is_evictable, named_of, less_recently_used, victim_for}
+use Rattle.pool_rules.specs.Victim.{is_evictable, last_used_of, less_recently_used, victim_for}
 use Rattle.pool_rules.proofs.Tests.{and-both, same-eqb, find-passes}
 
 staler-either : (s : State) (best : Option ℕ) (x v : ℕ) → less_recently_used s best x ≡ Some v → (best ≡ Some v) ⊎ (x ≡ v)
 staler-either s None x v h = inr cc
 staler-either s (Some b) x v h =
-    elim (nat_lt (named_of s b) (named_of s x)) as (λ t. cond t (Some b) (Some x) ≡ Some v → (Some b ≡ Some v) ⊎ (x ≡ v)) [ true ↦ λ k. inl k | false ↦ λ k. inr cc ] h
+    elim (nat_lt (last_used_of s b) (last_used_of s x)) as (λ t. cond t (Some b) (Some x) ≡ Some v → (Some b ≡ Some v) ⊎ (x ≡ v)) [ true ↦ λ k. inl k | false ↦ λ k. inr cc ] h
 
 -- the victim among those that pass is the one before, or it passes
 victim-passes : (s : State) (test : ℕ → Bool) (xs : List ℕ) (best : Option ℕ) (v : ℕ) → fold (less_recently_used s) best (filter test xs) ≡ Some v → (best ≡ Some v) ⊎ (test v ≡ true)

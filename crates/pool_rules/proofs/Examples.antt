@@ -56,11 +56,11 @@ crowded_journal =
 abbrev take_5 : Option ℕ → List Entry
 take_5 victim = crowded_journal ++ entry 1 (Take (Some 1) 5 victim) ∷ []
 
--- 4 was named at place 9, 2 at place 11: 4 goes
+-- 4 was last used at place 9, 2 at place 11: 4 is evicted
 pub crowded_oldest : first_refused crowded (take_5 (Some 4)) ≡ None
 crowded_oldest = refl
 
--- 2 was named later
+-- 2 was used later
 pub crowded_later : first_refused crowded (take_5 (Some 2)) ≡ Some 15
 crowded_later = refl
 
@@ -92,7 +92,7 @@ loading_shared = asked_shared ++ entry 0 (Take (Some 0) 1 None) ∷ []
 pub next_busy : next_after shared loading_shared (Some 0) ≡ Next.Busy 1
 next_busy = refl
 
--- no frame is named, so none is busy
+-- no frame is given, so none is busy
 pub next_nothing : next_after shared loading_shared None ≡ Next.Nothing
 next_nothing = refl
 
@@ -213,30 +213,30 @@ narrow_pins = refl
 pub unpin_pins : pins_after (asked_1 ++ entry 0 (Unpin 0) ∷ []) ≡ []
 unpin_pins = refl
 
--- Which page goes: pages 1 and 2 came in this order, were named again by these entries, and nobody pins them.
+-- Which page is evicted: pages 1 and 2 came in this order, were used again by these entries, and nobody pins them.
 abbrev idle : List Entry → List Entry
 idle entries =
     entry 0 (Pin 0) ∷ entry 0 (Settle 0 (0 ∷ []) (1 ∷ 2 ∷ [])) ∷ load 1 ++ load 2 ++ entries ++ entry 0 (Unpin 0) ∷ []
 
--- the Settle names page 0, and each Install its own
-pub named_installed : (state_of flat (idle [])).named ≡ 2 ∷ 4 ∷ 6 ∷ 0 ∷ []
-named_installed = refl
+-- the Settle uses page 0, and each Install its own
+pub last_used_installed : (state_of flat (idle [])).last_used ≡ 2 ∷ 4 ∷ 6 ∷ 0 ∷ []
+last_used_installed = refl
 
--- page 1 was named first
+-- page 1 was used first
 pub victim_first : victim_after flat (idle []) 3 ≡ Some 1
 victim_first = refl
 
--- a Narrow names page 1 again, so page 2 goes
-pub victim_named_again : victim_after flat (idle (entry 0 (Narrow 0 (1 ∷ [])) ∷ [])) 3 ≡ Some 2
-victim_named_again = refl
+-- a Narrow uses page 1 again, so page 2 is evicted
+pub victim_used_again : victim_after flat (idle (entry 0 (Narrow 0 (1 ∷ [])) ∷ [])) 3 ≡ Some 2
+victim_used_again = refl
 
--- named by the same entry: the greater number goes
+-- used by the same entry: the greater number is evicted
 pub victim_equal : victim_after flat (idle (entry 0 (Narrow 0 (1 ∷ 2 ∷ [])) ∷ [])) 3 ≡ Some 2
 victim_equal = refl
 
--- what was never named goes first
-pub victim_unnamed : victim_for flat (record (state_of flat (idle [])) { named = 2 ∷ 4 ∷ 0 ∷ 0 ∷ [] }) 3 ≡ Some 2
-victim_unnamed = refl
+-- what was never used is evicted first
+pub victim_unused : victim_for flat (record (state_of flat (idle [])) { last_used = 2 ∷ 4 ∷ 0 ∷ 0 ∷ [] }) 3 ≡ Some 2
+victim_unused = refl
 
 -- page 1, which nobody pins, goes, and it stays once a frame pins it
 pub victim_unpinned : victim_after flat asked_1 3 ≡ Some 1

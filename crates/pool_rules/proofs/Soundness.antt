@@ -132,9 +132,9 @@ IsSound-opening layout bounds = record {
 -- ---- the entries
 
 -- an entry that changes no more than the pins
-repinned : (layout : Layout) (s : State) (frames : List Frame) (wants : List Want) (named : List ℕ) (stopped : Bool) (entries : ℕ) → IsSound layout s → ((page : ℕ) → pinned page frames ≡ true → is_resident s page ≡ true) →
-    IsSound layout (record { resident = s.resident; loading = s.loading; frames = frames; wants = wants; named = named; stopped = stopped; entries = entries })
-repinned layout s frames wants named stopped entries sound pins = record {
+repinned : (layout : Layout) (s : State) (frames : List Frame) (wants : List Want) (last_used : List ℕ) (stopped : Bool) (entries : ℕ) → IsSound layout s → ((page : ℕ) → pinned page frames ≡ true → is_resident s page ≡ true) →
+    IsSound layout (record { resident = s.resident; loading = s.loading; frames = frames; wants = wants; last_used = last_used; stopped = stopped; entries = entries })
+repinned layout s frames wants last_used stopped entries sound pins = record {
   roots_stay = sound.roots_stay;
   uppers_stay = sound.uppers_stay;
   apart = sound.apart;
@@ -150,9 +150,9 @@ was-loading loading ended page h =
     ⊎_elim (λ same. rw same at h) (λ here. let none : is_some {T = ℕ} None ≡ true = rw here.1 at h in cc) (get_or-set_cases loading ended page None None)
 
 -- the end of a load
-unloaded : (layout : Layout) (s : State) (ended : ℕ) (wants : List Want) (named : List ℕ) (stopped : Bool) (entries : ℕ) → IsSound layout s →
-    IsSound layout (record { resident = s.resident; loading = set s.loading ended None; frames = s.frames; wants = wants; named = named; stopped = stopped; entries = entries })
-unloaded layout s ended wants named stopped entries sound = record {
+unloaded : (layout : Layout) (s : State) (ended : ℕ) (wants : List Want) (last_used : List ℕ) (stopped : Bool) (entries : ℕ) → IsSound layout s →
+    IsSound layout (record { resident = s.resident; loading = set s.loading ended None; frames = s.frames; wants = wants; last_used = last_used; stopped = stopped; entries = entries })
+unloaded layout s ended wants last_used stopped entries sound = record {
   roots_stay = sound.roots_stay;
   uppers_stay = λ page upper held h. sound.uppers_stay page upper (was-held page held) h;
   apart = λ page resident loading. sound.apart page resident (was-loading s.loading ended page loading);
@@ -194,7 +194,7 @@ taken-absent layout s taken can =
 
 -- a Take into a free slot
 taken-free : (layout : Layout) (s : State) (taken by : ℕ) (entries : ℕ) → IsSound layout s → can_take layout s taken ≡ true → held_count s < layout.slots →
-    IsSound layout (record { resident = s.resident; loading = set s.loading taken (Some by); frames = s.frames; wants = s.wants; named = s.named; stopped = s.stopped; entries = entries })
+    IsSound layout (record { resident = s.resident; loading = set s.loading taken (Some by); frames = s.frames; wants = s.wants; last_used = s.last_used; stopped = s.stopped; entries = entries })
 taken-free layout s taken by entries sound can free = record {
   roots_stay = sound.roots_stay;
   uppers_stay = λ page upper held h. taken-uppers layout s taken by sound can (is_resident s page) page upper (λ r. r) held h;
@@ -250,7 +250,7 @@ no-victim layout s taken by victim bounds free r page upper was held h same =
 
 -- a Take for a victim
 taken-for : (layout : Layout) (s : State) (taken by victim : ℕ) (entries : ℕ) → InBounds layout → IsSound layout s → can_take layout s taken ≡ true → IsLoose layout s taken victim →
-    IsSound layout (record { resident = set s.resident victim false; loading = set s.loading taken (Some by); frames = s.frames; wants = s.wants; named = s.named; stopped = s.stopped; entries = entries })
+    IsSound layout (record { resident = set s.resident victim false; loading = set s.loading taken (Some by); frames = s.frames; wants = s.wants; last_used = s.last_used; stopped = s.stopped; entries = entries })
 taken-for layout s taken by victim entries bounds sound can free = record {
   roots_stay = λ page root. still-resident s.resident victim page (λ same. let no = free.no_root in let yes : nat_lt victim layout.roots ≡ true = (Decides-ltb victim layout.roots).1 (rw same at root) in cc) (sound.roots_stay page root);
   uppers_stay = λ page upper held h. still-resident s.resident victim upper (no-victim layout s taken by victim bounds free (get_or (set s.resident victim false) page false) page upper (was-resident s.resident victim page) held h) (taken-uppers layout s taken by sound can (get_or (set s.resident victim false) page false) page upper (was-resident s.resident victim page) held h);
@@ -272,9 +272,9 @@ now-resident resident installed page h =
     ⊎_elim (λ same. inr (rw same at h)) (λ here. inl here.0) (get_or-set_cases resident installed page true false)
 
 -- an Install of a page that is being loaded
-installed : (layout : Layout) (s : State) (page : ℕ) (wants : List Want) (named : List ℕ) (entries : ℕ) → IsSound layout s → is_loading s page ≡ true →
-    IsSound layout (record { resident = set s.resident page true; loading = set s.loading page None; frames = map (frame_after_install s.wants page) s.frames; wants = wants; named = named; stopped = s.stopped; entries = entries })
-installed layout s page wants named entries sound loads = record {
+installed : (layout : Layout) (s : State) (page : ℕ) (wants : List Want) (last_used : List ℕ) (entries : ℕ) → IsSound layout s → is_loading s page ≡ true →
+    IsSound layout (record { resident = set s.resident page true; loading = set s.loading page None; frames = map (frame_after_install s.wants page) s.frames; wants = wants; last_used = last_used; stopped = s.stopped; entries = entries })
+installed layout s page wants last_used entries sound loads = record {
   roots_stay = λ p root. stays-resident s.resident page p (sound.roots_stay p root);
   uppers_stay = λ p upper held h. stays-resident s.resident page upper (sound.uppers_stay p upper (was-held p held) h);
   apart = λ p resident loading. ⊎_elim (λ same. gone p same loading) (λ old. sound.apart p old (was-loading s.loading page p loading)) (now-resident s.resident page p resident);
@@ -352,7 +352,7 @@ taken layout s by frame page (Some victim) bounds sound told =
 -- each allowed entry leaves a sound state sound
 pub IsSound-after : (layout : Layout) (s : State) (journal : List Entry) (by : ℕ) (what : What) → InBounds layout → IsSound layout s → allows layout s journal by what ≡ true → IsSound layout (state_after s (record { by = by; what = what }))
 IsSound-after layout s journal by (Pin frame) bounds sound h =
-    repinned layout s _ s.wants s.named s.stopped (s.entries + 1) sound (pinned-now layout s by frame sound)
+    repinned layout s _ s.wants s.last_used s.stopped (s.entries + 1) sound (pinned-now layout s by frame sound)
 IsSound-after layout s journal by (Settle frame pages missing) bounds sound h =
     let a = and-both (owns s by frame) (is_page_list layout pages && (is_page_list layout missing && (all_resident s pages && not (any_resident s missing)))) h in
     let b = and-both (is_page_list layout pages) (is_page_list layout missing && (all_resident s pages && not (any_resident s missing))) a.1 in
@@ -360,13 +360,13 @@ IsSound-after layout s journal by (Settle frame pages missing) bounds sound h =
     let d = and-both (all_resident s pages) (not (any_resident s missing)) c.1 in
     repinned layout s _ _ _ s.stopped (s.entries + 1) sound (settled-pins layout s (record { number = frame; owner = by; pins = marked (length s.resident) pages }) pages sound refl d.0)
 IsSound-after layout s journal by (Ask frame pages) bounds sound h =
-    repinned layout s s.frames _ s.named s.stopped (s.entries + 1) sound sound.pins_stay
+    repinned layout s s.frames _ s.last_used s.stopped (s.entries + 1) sound sound.pins_stay
 IsSound-after layout s journal by (Narrow frame pages) bounds sound h =
     let a = and-both (owns s by frame) (ascends pages && list_all (pins s frame) pages) h in
     let b = and-both (ascends pages) (list_all (pins s frame) pages) a.1 in
     repinned layout s _ s.wants _ s.stopped (s.entries + 1) sound (narrowed-pins layout s (record { number = frame; owner = by; pins = marked (length s.resident) pages }) pages sound refl b.1)
 IsSound-after layout s journal by (Unpin frame) bounds sound h =
-    repinned layout s _ s.wants s.named s.stopped (s.entries + 1) sound (λ page k. sound.pins_stay page (any-filter (λ f. get_or f.pins page false) (λ f. not (f.number == frame)) s.frames k))
+    repinned layout s _ s.wants s.last_used s.stopped (s.entries + 1) sound (λ page k. sound.pins_stay page (any-filter (λ f. get_or f.pins page false) (λ f. not (f.number == frame)) s.frames k))
 IsSound-after layout s journal by (Take None page victim) bounds sound h =
     taken layout s by None page victim bounds sound (IsTaken-from_next layout s None page victim (and-both (not s.stopped) (is_take (next_in layout s None) page victim) h).1)
 IsSound-after layout s journal by (Take (Some frame) page victim) bounds sound h =
@@ -376,15 +376,15 @@ IsSound-after layout s journal by (Take (Some frame) page victim) bounds sound h
 IsSound-after layout s journal by (Install page digest) bounds sound h =
     installed layout s page _ _ (s.entries + 1) sound (loads-loading s by page h)
 IsSound-after layout s journal by (Fail page before after) bounds sound h =
-    unloaded layout s page _ s.named s.stopped (s.entries + 1) sound
+    unloaded layout s page _ s.last_used s.stopped (s.entries + 1) sound
 IsSound-after layout s journal by (Spoil page why) bounds sound h =
-    unloaded layout s page _ s.named s.stopped (s.entries + 1) sound
+    unloaded layout s page _ s.last_used s.stopped (s.entries + 1) sound
 IsSound-after layout s journal by (Starve page) bounds sound h =
-    unloaded layout s page _ s.named s.stopped (s.entries + 1) sound
+    unloaded layout s page _ s.last_used s.stopped (s.entries + 1) sound
 IsSound-after layout s journal by (Full frame) bounds sound h =
-    repinned layout s s.frames s.wants s.named s.stopped (s.entries + 1) sound sound.pins_stay
+    repinned layout s s.frames s.wants s.last_used s.stopped (s.entries + 1) sound sound.pins_stay
 IsSound-after layout s journal by Stop bounds sound h =
-    repinned layout s s.frames s.wants s.named true (s.entries + 1) sound sound.pins_stay
+    repinned layout s s.frames s.wants s.last_used true (s.entries + 1) sound sound.pins_stay
 
 -- entries that are allowed one after another leave a sound state sound
 sound-through : (layout : Layout) (earlier later : List Entry) → InBounds layout → IsSound layout (state_of layout earlier) → first_refused_after layout earlier later ≡ None → IsSound layout (state_of layout (earlier ++ later))

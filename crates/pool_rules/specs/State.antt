@@ -21,7 +21,7 @@ pub record State : Type 0 where
   pub wants : List Want
   -- by page: when it was last used, as the number of entries up to and including the last Settle, Narrow or
   -- Install that has it; 0 if none has
-  pub named : List ℕ
+  pub last_used : List ℕ
   -- whether the journal has a Stop
   pub stopped : Bool
   -- how many entries there are
@@ -60,7 +60,7 @@ initial_state layout = record {
   loading = replicate layout.pages None;
   frames = [];
   wants = [];
-  named = replicate layout.pages 0;
+  last_used = replicate layout.pages 0;
   stopped = false;
   entries = 0;
 }
@@ -125,15 +125,15 @@ wants_after s (Spoil page why) = wants_without page s.wants
 wants_after s (Starve page) = wants_without page s.wants
 wants_after s _ = s.wants
 
-abbrev pub name_at : ℕ → List ℕ → List ℕ → List ℕ
-name_at place pages named = fold (λ all page. slice_set all page place) named pages
+abbrev pub set_last_used : ℕ → List ℕ → List ℕ → List ℕ
+set_last_used place pages last_used = fold (λ all page. slice_set all page place) last_used pages
 
 -- Last use: Settle and Narrow use their pages, Install uses its page
-abbrev pub named_after : State → What → List ℕ
-named_after s (Settle frame pages missing) = name_at (s.entries + 1) pages s.named
-named_after s (Narrow frame pages) = name_at (s.entries + 1) pages s.named
-named_after s (Install page digest) = name_at (s.entries + 1) (page ∷ []) s.named
-named_after s _ = s.named
+abbrev pub last_used_after : State → What → List ℕ
+last_used_after s (Settle frame pages missing) = set_last_used (s.entries + 1) pages s.last_used
+last_used_after s (Narrow frame pages) = set_last_used (s.entries + 1) pages s.last_used
+last_used_after s (Install page digest) = set_last_used (s.entries + 1) (page ∷ []) s.last_used
+last_used_after s _ = s.last_used
 
 abbrev pub stopped_after : What → Bool → Bool
 stopped_after Stop stopped = true
@@ -146,7 +146,7 @@ state_after_event s by what = record {
   loading = loading_after by what s.loading;
   frames = frames_after s by what;
   wants = wants_after s what;
-  named = named_after s what;
+  last_used = last_used_after s what;
   stopped = stopped_after what s.stopped;
   entries = s.entries;
 }
