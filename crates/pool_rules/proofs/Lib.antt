@@ -1,8 +1,10 @@
 pub mod Allowed
 pub mod Choices
+pub mod EventExamples
 pub mod Examples
 pub mod Flags
 pub mod LegalJournals
+pub mod Lengths
 pub mod Pinned
 pub mod Ranges
 pub mod RuleExamples

@@ -1,9 +1,11 @@
 -- The state of the pool after a journal: a fold over its entries, the oldest first.
 use Rattle.std.specs.Prelude.{◌==◌, ◌+◌, ◌&&◌, ◌||◌, ℕ, Bool, true, false, not, List, [], ◌∷◌, ◌++◌, length, map, filter, fold, nat_lt, replicate, if◌then◌else◌, Option, None, Some, is_some, count_by, slice_set, slice_index_or}
 use Rattle.std.specs.List.{list_any}
+use Rattle.std.specs.Option.{option_map_or}
 use Rattle.journal.specs.declared.entries.Entry.{Entry}
 use Rattle.journal.specs.declared.entries.What.{What}
-use Rattle.journal.specs.declared.entries.What.TheVariants.{Pin, Settle, Ask, Narrow, Unpin, Take, Install, Fail, Spoil, Starve, Stop}
+use Rattle.journal.specs.declared.entries.What.TheVariants.{Pin, Settle, Ask, Narrow, Unpin, Take, Install, Stop}
+use Rattle.pool_rules.specs.Events.{page_ended}
 use Rattle.pool_rules.specs.Frame.{Frame}
 use Rattle.pool_rules.specs.declared.want.Want.{Want}
 use Rattle.journal.specs.declared.layouts.Layout.{Layout}
@@ -74,11 +76,7 @@ resident_after _ resident = resident
 -- Loading: Take adds its page with its maker, the end of a load removes it
 abbrev pub loading_after : ℕ → What → List (Option ℕ) → List (Option ℕ)
 loading_after by (Take frame page victim) loading = slice_set loading page (Some by)
-loading_after by (Install page digest) loading = slice_set loading page None
-loading_after by (Fail page before after) loading = slice_set loading page None
-loading_after by (Spoil page why) loading = slice_set loading page None
-loading_after by (Starve page) loading = slice_set loading page None
-loading_after by _ loading = loading
+loading_after by what loading = option_map_or (λ page. slice_set loading page None) (page_ended what) loading
 
 -- the frames with the one of its number replaced by this frame, or this frame appended
 abbrev pub replace_frame : Frame → List Frame → List Frame
@@ -119,11 +117,7 @@ wants_without page wants = filter (λ w. not (w.page == page)) wants
 abbrev pub wants_after : State → What → List Want
 wants_after s (Settle frame pages missing) = wants_of_others s frame ++ wants_of frame true missing
 wants_after s (Ask frame pages) = wants_of_others s frame ++ wants_of frame false pages
-wants_after s (Install page digest) = wants_without page s.wants
-wants_after s (Fail page before after) = wants_without page s.wants
-wants_after s (Spoil page why) = wants_without page s.wants
-wants_after s (Starve page) = wants_without page s.wants
-wants_after s _ = s.wants
+wants_after s what = option_map_or (λ page. wants_without page s.wants) (page_ended what) s.wants
 
 abbrev pub set_last_used : ℕ → List ℕ → List ℕ → List ℕ
 set_last_used place pages last_used = fold (λ all page. slice_set all page place) last_used pages
