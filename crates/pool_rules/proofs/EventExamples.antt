@@ -1,10 +1,10 @@
 -- What events are about, by event, and tests on numbers, computed.
-use Rattle.std.proofs.Common.{◌≡◌, true, false, List, [], ◌∷◌, map, Some, None, refl}
+use Rattle.std.proofs.Common.{◌≡◌, true, false, List, [], ◌∷◌, ◌++◌, map, replicate, Some, None, refl}
 use Rattle.journal.specs.declared.entries.Spoilt.TheVariants.{Short}
 use Rattle.journal.specs.declared.entries.What.{What}
 use Rattle.journal.specs.declared.entries.What.TheVariants.{Pin, Settle, Ask, Narrow, Unpin, Take, Install, Fail, Spoil, Starve, Full, Stop}
-use Rattle.pool_rules.proofs.Examples.{digest}
-use Rattle.pool_rules.specs.Events.{frame_of, page_ended}
+use Rattle.pool_rules.proofs.Examples.{digest, entry}
+use Rattle.pool_rules.specs.Events.{frame_of, page_ended, replaces_wants, is_stop, has_stop}
 use Rattle.pool_rules.specs.Numbers.{holds, is_among}
 
 -- One event of each kind: those of a frame are of frame 3, and those of a page of page 2.
@@ -36,3 +36,16 @@ among_each = refl
 
 pub among_none : is_among [] 0 ≡ false
 among_none = refl
+
+-- a Settle and an Ask replace the wants of their own frame
+pub replaces_own : map (λ what. replaces_wants what 3) of_frame ≡ false ∷ true ∷ true ∷ false ∷ false ∷ false ∷ false ∷ []
+replaces_own = refl
+
+pub replaces_other : map (λ what. replaces_wants what 2) (Stop ∷ of_frame ++ ends) ≡ replicate 12 false
+replaces_other = refl
+
+pub stop_alone : map has_stop ([] ∷ (entry 2 (Pin 3) ∷ []) ∷ (entry 2 (Pin 3) ∷ entry 2 Stop ∷ entry 2 (Pin 3) ∷ []) ∷ []) ≡ false ∷ false ∷ true ∷ []
+stop_alone = refl
+
+pub stop_no_other : map is_stop (of_frame ++ ends) ≡ replicate 11 false
+stop_no_other = refl

@@ -10,4 +10,6 @@ pub mod Ranges
 pub mod RuleExamples
 pub mod Soundness
 pub mod Stalest
+pub mod Stops
 pub mod Tests
+pub mod Wants

@@ -1,5 +1,7 @@
--- What an event is about: the frame that it names, and the page whose load it ends.
-use Rattle.std.specs.Prelude.{ℕ, Option, None, Some}
+-- What an event is about: the frame that it names, the page whose load it ends, and whether it is a Stop.
+use Rattle.std.specs.Prelude.{◌==◌, ℕ, Bool, true, false, List, Option, None, Some}
+use Rattle.std.specs.List.{list_any}
+use Rattle.journal.specs.declared.entries.Entry.{Entry}
 use Rattle.journal.specs.declared.entries.What.{What}
 use Rattle.journal.specs.declared.entries.What.TheVariants.{Pin, Settle, Ask, Narrow, Unpin, Take, Install, Fail, Spoil, Starve, Full, Stop}
 
@@ -32,3 +34,17 @@ page_ended (Spoil page why) = Some page
 page_ended (Starve page) = Some page
 page_ended (Full frame) = None
 page_ended Stop = None
+
+-- whether the event replaces the wants of the frame
+abbrev pub replaces_wants : What → ℕ → Bool
+replaces_wants (Settle frame pages missing) f = frame == f
+replaces_wants (Ask frame pages) f = frame == f
+replaces_wants _ f = false
+
+abbrev pub is_stop : What → Bool
+is_stop Stop = true
+is_stop _ = false
+
+-- whether one of the entries is a Stop
+abbrev pub has_stop : List Entry → Bool
+has_stop entries = list_any (λ e. is_stop e.what) entries
