@@ -3,6 +3,7 @@ pub mod Choices
 pub mod EventExamples
 pub mod Examples
 pub mod Flags
+pub mod LargePool
 pub mod LegalJournals
 pub mod Lengths
 pub mod Pinned

@@ -1,11 +1,12 @@
 //! The laws of journals, as functions without a body: each clause holds for every layout and journal.
 
-ghost use Rattle.std.specs.Prelude.{◌≡◌, ◌<◌, ◌⊎◌, ◌++◌, ◌∷◌, [], ℕ, All, Contains, List, IsTrue, IsFalse, Some, None, ⊤};
+ghost use Rattle.std.specs.Prelude.{◌≡◌, ◌<◌, ◌≤◌, ◌++◌, ◌∷◌, [], ℕ, Option, All, Contains, List, IsTrue, IsFalse, Some, None, ⊤};
 ghost use Rattle.journal.specs.declared.entries.Entry.{Entry};
 ghost use Rattle.journal.specs.declared.layouts.Layout.{Layout};
 ghost use Rattle.journal.specs.Layout.{InBounds};
 ghost use Rattle.pool_rules.specs.declared.want.Want.{Want};
 ghost use Rattle.pool_rules.specs.Events.{has_stop, page_ended, replaces_wants};
+ghost use Rattle.pool_rules.specs.Next.{is_full, next_after};
 ghost use Rattle.pool_rules.specs.Numbers.{holds};
 ghost use Rattle.pool_rules.specs.Rules.{IsLegal};
 ghost use Rattle.pool_rules.specs.Sound.{IsSound};
@@ -50,4 +51,12 @@ pub fn wants_last_until_their_load_ends()
 pub fn a_stop_is_seen()
     ensures { (layout : Layout) (journal : List Entry) →
         (state_of layout journal).stopped ≡ has_stop journal }
+{}
+
+/// Where there is a slot for each page, nobody finds the pool full: whatever page can be taken, a slot is
+/// free for it.
+pub fn large_pools_are_never_full()
+    ensures { (layout : Layout) (journal : List Entry) (frame : Option ℕ) →
+        InBounds layout → IsLegal layout journal → layout.pages ≤ layout.slots →
+        IsFalse (is_full (next_after layout journal frame)) }
 {}
