@@ -6,6 +6,12 @@
 //! On `Memory` the value is unchanged unless the item says otherwise.
 #![tactic(auto)]
 
+mod ascending;
 mod page_list;
+mod page_record;
+mod page_table;
 
+pub use ascending::is_among_ascending;
 pub use page_list::{PageList, PagesLeft};
+pub use page_record::{MakerId, NO_RECORD, PageRecord, is_in_snapshot};
+pub use page_table::PageTable;
