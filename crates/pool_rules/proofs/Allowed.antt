@@ -13,6 +13,7 @@ use Rattle.pool_rules.specs.State.{State, is_live, is_resident}
 use Rattle.pool_rules.specs.Victim.{is_pinned}
 use Rattle.pool_rules.proofs.Choices.{IsTaken, IsTaken-from_next}
 use Rattle.pool_rules.proofs.Flags.{place-within}
+use Rattle.pool_rules.proofs.Lengths.{HasItemAPage}
 use Rattle.pool_rules.proofs.Soundness.{loose, loads-loading}
 use Rattle.pool_rules.proofs.Tests.{and-both, any-weaker}
 
@@ -79,9 +80,9 @@ pub installed-absent : (layout : Layout) (s : State) (by page : ℕ) → IsSound
 installed-absent layout s by page sound h =
     elim (is_resident s page) as (λ b. is_resident s page ≡ b → b ≡ false) [ true ↦ λ here. absurd (sound.apart page here (loads-loading s by page h)) | false ↦ λ none. refl ] refl
 
-pub installed-below : (layout : Layout) (s : State) (by page : ℕ) → IsSound layout s → loads s by page ≡ true → page < length s.resident
-installed-below layout s by page sound h =
-    omega (arith, place-within is_some s.loading page None refl (loads-loading s by page h), sound.maker_a_page, sound.flag_a_page)
+pub installed-below : (layout : Layout) (s : State) (by page : ℕ) → HasItemAPage layout s → loads s by page ≡ true → page < length s.resident
+installed-below layout s by page lists h =
+    omega (arith, place-within is_some s.loading page None refl (loads-loading s by page h), lists.maker_a_page, lists.flag_a_page)
 
 -- a Take asks nothing of the journal
 pub take-journal : (layout : Layout) (s : State) (journal : List Entry) (by : ℕ) (frame : Option ℕ) (page : ℕ) (victim : Option ℕ) → allows layout s [] by (Take frame page victim) ≡ allows layout s journal by (Take frame page victim)

@@ -1,19 +1,21 @@
 -- What an allowed Take tells of its page and its victim.
 use Rattle.std.proofs.Common.{◌≡◌, ℕ, ◌<◌, List, [], ◌∷◌, Bool, true, false, cond, nat_lt, ◌==◌, ◌⊎◌, inl, inr, ⊎_elim, Option, Some, None, filter, fold, refl}
+use Rattle.std.specs.Option.{option_eq}
+use Rattle.std.specs.Prelude.{nat_eq}
 use Rattle.std.proofs.lemmas.Bool.Decides.{Decides-ltb}
 use Rattle.pool_rules.specs.declared.want.Want.{Want}
 use Rattle.journal.specs.declared.layouts.Layout.{Layout}
 use Rattle.pool_rules.specs.declared.next_load.Next.TheVariants.{Take}
 use Rattle.journal.specs.Layout.{page_numbers}
-use Rattle.pool_rules.specs.Next.{is_want_for, can_take, is_takeable, first_takeable, first_loading, next_with, next_at, busy_with, next_without, next_of, next_in, same_victim, is_take}
+use Rattle.pool_rules.specs.Next.{is_want_for, can_take, is_takeable, first_takeable, first_loading, next_with, next_at, busy_with, next_without, next_of, next_in, is_take}
 use Rattle.pool_rules.specs.State.{State, held_count}
-use Rattle.pool_rules.specs.Victim.{is_evictable, named_of, less_recently_used, victim_for}
+use Rattle.pool_rules.specs.Victim.{is_evictable, last_used_of, less_recently_used, victim_for}
 use Rattle.pool_rules.proofs.Tests.{and-both, same-eqb, find-passes}
 
 staler-either : (s : State) (best : Option ℕ) (x v : ℕ) → less_recently_used s best x ≡ Some v → (best ≡ Some v) ⊎ (x ≡ v)
 staler-either s None x v h = inr cc
 staler-either s (Some b) x v h =
-    elim (nat_lt (named_of s b) (named_of s x)) as (λ t. cond t (Some b) (Some x) ≡ Some v → (Some b ≡ Some v) ⊎ (x ≡ v)) [ true ↦ λ k. inl k | false ↦ λ k. inr cc ] h
+    elim (nat_lt (last_used_of s b) (last_used_of s x)) as (λ t. cond t (Some b) (Some x) ≡ Some v → (Some b ≡ Some v) ⊎ (x ≡ v)) [ true ↦ λ k. inl k | false ↦ λ k. inr cc ] h
 
 -- the victim among those that pass is the one before, or it passes
 victim-passes : (s : State) (test : ℕ → Bool) (xs : List ℕ) (best : Option ℕ) (v : ℕ) → fold (less_recently_used s) best (filter test xs) ≡ Some v → (best ≡ Some v) ⊎ (test v ≡ true)
@@ -38,23 +40,23 @@ pub record IsTaken (layout : Layout) (s : State) (page : ℕ) (victim : Option �
   pub takeable : can_take layout s page ≡ true
   pub room : Room layout s page victim
 
-same-none : (victim : Option ℕ) → same_victim None victim ≡ true → victim ≡ None
+same-none : (victim : Option ℕ) → option_eq nat_eq None victim ≡ true → victim ≡ None
 same-none None h = refl
 same-none (Some v) h = cc
 
-same-some : (v : ℕ) (victim : Option ℕ) → same_victim (Some v) victim ≡ true → victim ≡ Some v
+same-some : (v : ℕ) (victim : Option ℕ) → option_eq nat_eq (Some v) victim ≡ true → victim ≡ Some v
 same-some v None h = cc
 same-some v (Some w) h = let e : v ≡ w = same-eqb v w h in cc
 
 into_victim : (layout : Layout) (s : State) (p page : ℕ) (victim found : Option ℕ) → victim_for layout s p ≡ found → is_take (next_with p found) page victim ≡ true → (p ≡ page) × Room layout s p victim
 into_victim layout s p page victim None found h = cc
 into_victim layout s p page victim (Some v) found h =
-    let parts = and-both (p == page) (same_victim (Some v) victim) h in
+    let parts = and-both (p == page) (option_eq nat_eq (Some v) victim) h in
     (same-eqb p page parts.0, inr (v, same-some v victim parts.1, victim-evictable layout s p v found))
 
 into_free : (layout : Layout) (s : State) (p page : ℕ) (victim : Option ℕ) → nat_lt (held_count s) layout.slots ≡ true → is_take (Take p None) page victim ≡ true → (p ≡ page) × Room layout s p victim
 into_free layout s p page victim free h =
-    let parts = and-both (p == page) (same_victim None victim) h in
+    let parts = and-both (p == page) (option_eq nat_eq None victim) h in
     (same-eqb p page parts.0, inl (same-none victim parts.1, (Decides-ltb (held_count s) layout.slots).0 free))
 
 take-at : (layout : Layout) (s : State) (p page : ℕ) (victim : Option ℕ) → is_take (next_at layout s p) page victim ≡ true → (p ≡ page) × Room layout s p victim

@@ -5,7 +5,7 @@ use Rattle.geom_core.specs.declared.digests.Digest32.{Digest32}
 use Rattle.journal.specs.declared.entries.Entry.{Entry}
 use Rattle.journal.specs.declared.entries.Spoilt.TheVariants.{Short}
 use Rattle.journal.specs.declared.entries.What.{What}
-use Rattle.journal.specs.declared.entries.What.TheVariants.{Pin, Settle, Ask, Narrow, Unpin, Take, Install, Fail, Spoil, Starve}
+use Rattle.journal.specs.declared.entries.What.TheVariants.{Pin, Settle, Ask, Narrow, Unpin, Take, Install, Fail, Spoil, Starve, Full, Stop}
 use Rattle.journal.specs.declared.layouts.Layout.{Layout}
 use Rattle.pool_rules.specs.declared.next_load.Next.TheVariants as Next
 use Rattle.pool_rules.specs.declared.want.Want.{Want}
@@ -56,11 +56,11 @@ crowded_journal =
 abbrev take_5 : Option ℕ → List Entry
 take_5 victim = crowded_journal ++ entry 1 (Take (Some 1) 5 victim) ∷ []
 
--- 4 was named at place 9, 2 at place 11: 4 goes
+-- 4 was last used at place 9, 2 at place 11: 4 is evicted
 pub crowded_oldest : first_refused crowded (take_5 (Some 4)) ≡ None
 crowded_oldest = refl
 
--- 2 was named later
+-- 2 was used later
 pub crowded_later : first_refused crowded (take_5 (Some 2)) ≡ Some 15
 crowded_later = refl
 
@@ -92,7 +92,19 @@ loading_shared = asked_shared ++ entry 0 (Take (Some 0) 1 None) ∷ []
 pub next_busy : next_after shared loading_shared (Some 0) ≡ Next.Busy 1
 next_busy = refl
 
--- no frame is named, so none is busy
+-- No page has an upper, and frame 0 waits for the pages 1 and 2, which are both being loaded.
+abbrev pub flat : Layout
+flat = record { pages = 4; roots = 1; slots = 3; uppers = [] ∷ [] ∷ [] ∷ [] ∷ [] }
+
+abbrev loading_both : List Entry
+loading_both =
+    entry 0 (Pin 0) ∷ entry 0 (Settle 0 (0 ∷ []) (1 ∷ 2 ∷ [])) ∷ entry 0 (Take (Some 0) 1 None) ∷ entry 0 (Take (Some 0) 2 None) ∷ []
+
+-- of two wants whose pages are being loaded the first is reported
+pub next_busy_first : next_after flat loading_both (Some 0) ≡ Next.Busy 1
+next_busy_first = refl
+
+-- no frame is given, so none is busy
 pub next_nothing : next_after shared loading_shared None ≡ Next.Nothing
 next_nothing = refl
 
@@ -138,6 +150,10 @@ ended_stays = refl
 pub ended_goes : wants_then (entry 1 (Unpin 1) ∷ entry 0 (Ask 0 (1 ∷ [])) ∷ []) ≡ want 0 1 false ∷ []
 ended_goes = refl
 
+-- no other event than an end of a load, a Settle or an Ask changes the wants
+pub others_keep : map (λ what. wants_then (entry 0 what ∷ [])) (Pin 0 ∷ Narrow 0 [] ∷ Unpin 0 ∷ Take None 1 None ∷ Full 0 ∷ Stop ∷ []) ≡ replicate 6 (wants_then [])
+others_keep = refl
+
 -- page 2 has to wait for its upper 1: a loader for all takes that, one for frame 0 has nothing to do
 pub next_for_all : next_after shared queued None ≡ Next.Take 1 None
 next_for_all = refl
@@ -152,10 +168,7 @@ next_busy_own = refl
 pub next_busy_other : next_after shared (queued ++ entry 2 (Take None 1 None) ∷ []) (Some 0) ≡ Next.Nothing
 next_busy_other = refl
 
--- Pages 1 and 2 stand on nothing; both frames want page 1, frame 0 waits for it, and maker 2 loads it.
-abbrev pub flat : Layout
-flat = record { pages = 4; roots = 1; slots = 3; uppers = [] ∷ [] ∷ [] ∷ [] ∷ [] }
-
+-- Both frames want page 1, frame 0 waits for it, and maker 2 loads it.
 abbrev pub loading_1 : List Entry
 loading_1 =
     entry 0 (Pin 0) ∷ entry 1 (Pin 1) ∷ entry 0 (Settle 0 (0 ∷ []) (1 ∷ [])) ∷ entry 1 (Ask 1 (1 ∷ 2 ∷ []))
@@ -213,30 +226,34 @@ narrow_pins = refl
 pub unpin_pins : pins_after (asked_1 ++ entry 0 (Unpin 0) ∷ []) ≡ []
 unpin_pins = refl
 
--- Which page goes: pages 1 and 2 came in this order, were named again by these entries, and nobody pins them.
+-- Which page is evicted: pages 1 and 2 came in this order, were used again by these entries, and nobody pins them.
 abbrev idle : List Entry → List Entry
 idle entries =
     entry 0 (Pin 0) ∷ entry 0 (Settle 0 (0 ∷ []) (1 ∷ 2 ∷ [])) ∷ load 1 ++ load 2 ++ entries ++ entry 0 (Unpin 0) ∷ []
 
--- the Settle names page 0, and each Install its own
-pub named_installed : (state_of flat (idle [])).named ≡ 2 ∷ 4 ∷ 6 ∷ 0 ∷ []
-named_installed = refl
+-- the Settle uses page 0, and each Install its own
+pub last_used_installed : (state_of flat (idle [])).last_used ≡ 2 ∷ 4 ∷ 6 ∷ 0 ∷ []
+last_used_installed = refl
 
--- page 1 was named first
+-- Settle uses its pages and not its missing ones, and no other event uses a page
+pub last_used_otherwise : map (λ what. (state_of flat (idle (entry 0 what ∷ []))).last_used) (Settle 0 (1 ∷ []) (3 ∷ []) ∷ Pin 0 ∷ Ask 0 (3 ∷ []) ∷ Take None 3 (Some 1) ∷ Starve 1 ∷ Full 0 ∷ Stop ∷ []) ≡ (2 ∷ 7 ∷ 6 ∷ 0 ∷ []) ∷ replicate 6 (2 ∷ 4 ∷ 6 ∷ 0 ∷ [])
+last_used_otherwise = refl
+
+-- page 1 was used first
 pub victim_first : victim_after flat (idle []) 3 ≡ Some 1
 victim_first = refl
 
--- a Narrow names page 1 again, so page 2 goes
-pub victim_named_again : victim_after flat (idle (entry 0 (Narrow 0 (1 ∷ [])) ∷ [])) 3 ≡ Some 2
-victim_named_again = refl
+-- a Narrow uses page 1 again, so page 2 is evicted
+pub victim_used_again : victim_after flat (idle (entry 0 (Narrow 0 (1 ∷ [])) ∷ [])) 3 ≡ Some 2
+victim_used_again = refl
 
--- named by the same entry: the greater number goes
+-- used by the same entry: the greater number is evicted
 pub victim_equal : victim_after flat (idle (entry 0 (Narrow 0 (1 ∷ 2 ∷ [])) ∷ [])) 3 ≡ Some 2
 victim_equal = refl
 
--- what was never named goes first
-pub victim_unnamed : victim_for flat (record (state_of flat (idle [])) { named = 2 ∷ 4 ∷ 0 ∷ 0 ∷ [] }) 3 ≡ Some 2
-victim_unnamed = refl
+-- what was never used is evicted first
+pub victim_unused : victim_for flat (record (state_of flat (idle [])) { last_used = 2 ∷ 4 ∷ 0 ∷ 0 ∷ [] }) 3 ≡ Some 2
+victim_unused = refl
 
 -- page 1, which nobody pins, goes, and it stays once a frame pins it
 pub victim_unpinned : victim_after flat asked_1 3 ≡ Some 1

@@ -1,11 +1,16 @@
 pub mod Allowed
 pub mod Choices
+pub mod EventExamples
 pub mod Examples
 pub mod Flags
+pub mod LargePool
 pub mod LegalJournals
+pub mod Lengths
 pub mod Pinned
 pub mod Ranges
 pub mod RuleExamples
 pub mod Soundness
 pub mod Stalest
+pub mod Stops
 pub mod Tests
+pub mod Wants

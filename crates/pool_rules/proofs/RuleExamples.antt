@@ -8,7 +8,7 @@ use Rattle.journal.specs.declared.entries.What.{What}
 use Rattle.journal.specs.declared.entries.What.TheVariants.{Pin, Settle, Ask, Narrow, Unpin, Take, Install, Fail, Spoil, Full, Stop}
 use Rattle.journal.specs.declared.layouts.Layout.{Layout}
 use Rattle.pool_rules.proofs.Examples.{entry, digest, shared, asked_shared, queued, flat, loading_1, other_ends, asked_1}
-use Rattle.pool_rules.specs.Rules.{first_refused, is_allowed, is_entry_of, is_wrong, last_after}
+use Rattle.pool_rules.specs.Rules.{first_refused, is_allowed, is_entry_of, is_wrong, last_after, rose}
 
 -- Two pages, of which neither stands on the other.
 abbrev two : Layout
@@ -47,6 +47,10 @@ fail_raised = refl
 pub fail_greatest : first_refused two (entry 0 (Pin 0) ∷ entry 0 (Settle 0 (0 ∷ []) (1 ∷ [])) ∷ entry 0 (Take (Some 0) 1 None) ∷ entry 0 (Fail 1 (2 ^ 64 - 1) (2 ^ 64 - 1)) ∷ []) ≡ None
 fail_greatest = refl
 
+-- from the greatest no other count is a rise
+pub fail_from_greatest : map (λ after. rose (2 ^ 64 - 1) after) (0 ∷ 5 ∷ (2 ^ 64 - 2) ∷ (2 ^ 64 - 1) ∷ []) ≡ false ∷ false ∷ false ∷ true ∷ []
+fail_from_greatest = refl
+
 -- a read that failed raised the count to 4, and the page is being loaded again
 abbrev failed : List Entry
 failed =
@@ -58,6 +62,10 @@ fail_below_last = refl
 
 pub fail_from_last : first_refused two (failed ++ entry 0 (Fail 1 4 5) ∷ []) ≡ None
 fail_from_last = refl
+
+-- the count may have risen since
+pub fail_above_last : first_refused two (failed ++ entry 0 (Fail 1 6 7) ∷ []) ≡ None
+fail_above_last = refl
 
 -- the last count is the maker's own, and 0 of one that had no Fail
 pub last_of_makers : map (λ by. last_after by (entry 0 (Fail 1 2 3) ∷ entry 0 (Fail 1 3 6) ∷ entry 1 (Fail 2 8 9) ∷ entry 0 Stop ∷ [])) (0 ∷ 1 ∷ 2 ∷ []) ≡ 6 ∷ 9 ∷ 0 ∷ []
@@ -82,6 +90,9 @@ settle_absent = refl
 
 pub settle_there : may (Settle 0 (0 ∷ []) (1 ∷ 2 ∷ [])) ≡ false
 settle_there = refl
+
+pub settle_beyond : may (Settle 0 [] (3 ∷ 4 ∷ [])) ≡ false
+settle_beyond = refl
 
 -- an Ask is for pages that there are, none of them resident
 pub ask_missing : may (Ask 0 (2 ∷ 3 ∷ [])) ≡ true
@@ -121,6 +132,10 @@ frame_owner = refl
 pub frame_other : map (λ what. is_allowed flat asked_1 (entry 1 what)) of_frame ≡ replicate 5 false
 frame_other = refl
 
+-- a Stop changes nothing for frames, and another one may begin
+pub frame_stopped : map (λ what. is_allowed flat (asked_1 ++ entry 1 Stop ∷ []) (entry 0 what)) (Pin 7 ∷ of_frame) ≡ replicate 6 true
+frame_stopped = refl
+
 -- Takes: what comes next for frame 0 is to take page 1 into a free slot.
 abbrev take_shared : ℕ → What → Option ℕ
 take_shared by what = first_refused shared (asked_shared ++ entry by what ∷ [])
@@ -159,7 +174,10 @@ take_stopped = refl
 pub full_stopped : full_one (entry 0 Stop ∷ entry 0 (Full 0) ∷ []) ≡ Some 3
 full_stopped = refl
 
--- but what is being loaded may come
+-- but what is being loaded may come, or its load end otherwise
+pub ends_stopped : map (λ what. first_refused flat (loading_1 ++ entry 0 Stop ∷ entry 2 what ∷ [])) (Install 1 digest ∷ other_ends) ≡ replicate 4 None
+ends_stopped = refl
+
 pub install_stopped : first_refused shared (asked_shared ++ entry 0 (Take (Some 0) 1 None) ∷ entry 0 Stop ∷ entry 0 (Install 1 digest) ∷ []) ≡ None
 install_stopped = refl
 

@@ -1,0 +1,7 @@
+pub mod Apart
+pub mod AscendingNumbers
+pub mod Changes
+pub mod Examples
+pub mod Links
+pub mod Searches
+pub mod UseOrder

@@ -1,0 +1,37 @@
+-- What changes of many pages at once leave of each record.
+use Rattle.std.specs.Prelude.{◌≡◌, ◌==◌, ◌+◌, ◌-◌, ℕ, Bool, true, false, List, length, count_by}
+use Rattle.pool_rules.specs.Numbers.{is_among}
+use Rattle.pool_tables.specs.PageRecords.{PageRecords, record_at}
+use Rattle.pool_tables.specs.declared.page_record.PageRecord.{PageRecord}
+
+-- the record of a page that is used at this count of entries, or is not used
+abbrev pub used_if : Bool → ℕ → PageRecord → PageRecord
+used_if true count r = record r { last_used = count }
+used_if false count r = r
+
+-- these pages, and no others, were used at this count of entries
+pub record AreUsed (count : ℕ) (pages : List ℕ) (old new : PageRecords) : Type 0 where
+  pub roots : new.roots ≡ old.roots
+  pub len : length new.records ≡ length old.records
+  pub records : (page : ℕ) →
+      record_at new.records page ≡ used_if (is_among pages page) count (record_at old.records page)
+
+-- how often the number is in the list
+abbrev pub times : List ℕ → ℕ → ℕ
+times numbers number = count_by (λ n. n == number) numbers
+
+-- each page has one dependent more for each time that it is among these
+pub record HaveMoreDependents (uppers : List ℕ) (old new : PageRecords) : Type 0 where
+  pub roots : new.roots ≡ old.roots
+  pub len : length new.records ≡ length old.records
+  pub records : (page : ℕ) → record_at new.records page ≡ record (record_at old.records page) {
+    dependents = (record_at old.records page).dependents + times uppers page;
+  }
+
+-- each page has one dependent less for each time that it is among these, down to none
+pub record HaveFewerDependents (uppers : List ℕ) (old new : PageRecords) : Type 0 where
+  pub roots : new.roots ≡ old.roots
+  pub len : length new.records ≡ length old.records
+  pub records : (page : ℕ) → record_at new.records page ≡ record (record_at old.records page) {
+    dependents = (record_at old.records page).dependents - times uppers page;
+  }

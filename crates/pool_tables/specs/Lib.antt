@@ -1,0 +1,5 @@
+pub mod Changes
+pub mod Eviction
+pub mod Internal
+pub mod ListedPages
+pub mod PageRecords
