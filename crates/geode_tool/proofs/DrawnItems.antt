@@ -36,3 +36,13 @@ drawn-more draws before tris i d within =
     ∙ ap (λ (k : ℕ). items_of (take i tris) ++ item_at k t ∷ []) (length-take-le i tris below) in
     flat_map_more draws before (items_of (take i tris)) (item_at i t)
     ∙ ap (λ (l : List Item). before ++ flat_map draws l) (sym items)
+
+-- the last triangle drawn by a function that is equal
+pub drawn-more_by_equal : (draws last : Item → List (ℕ × ℕ)) (before : List (ℕ × ℕ)) (tris : List Tri) (i : ℕ)
+    (d : Tri) → last ≡ draws → i < length tris →
+    (before ++ flat_map draws (items_of (take i tris))) ++ last (item_at i (get_or tris i d))
+    ≡ before ++ flat_map draws (items_of (take (i + 1) tris))
+drawn-more_by_equal draws last before tris i d same within =
+    ap (λ (draw : Item → List (ℕ × ℕ)).
+    (before ++ flat_map draws (items_of (take i tris))) ++ draw (item_at i (get_or tris i d))) same
+    ∙ drawn-more draws before tris i d within

@@ -8,7 +8,7 @@ use geom_core::limits::TRIANGLES_PER_CLUSTER;
 use geom_core::{Memory, Tri};
 use raster64::PixelSink;
 use std::alloc::Global;
-use visibility_buffer::{VisibilityBuffer, draw_triangle};
+use visibility_buffer::{VertexCache, VisibilityBuffer, draw_triangle};
 
 /// Returns the picture of a mesh without clusters, row by row: the triangle with the number k is drawn as
 /// triangle `k mod TRIANGLES_PER_CLUSTER` of cluster `k div TRIANGLES_PER_CLUSTER`.
@@ -40,10 +40,11 @@ fn draw_all<T: PixelSink>(request: &DrawRequest, tris: &[Tri], to: &mut T)
         → T.shows to.new rest
         (before ++ flat_map (drawn request.now.camera request.now.size) (items_of tris.now)) }
 {
+    let mut cache = VertexCache::new(&request.camera);
     for (number, tri) in tris.iter().enumerate() {
         let number = number as u32;
         draw_triangle(
-            &request.camera,
+            &mut cache,
             request.size,
             number / TRIANGLES_PER_CLUSTER,
             number % TRIANGLES_PER_CLUSTER,

@@ -1,5 +1,5 @@
 -- Worked examples of lines, words and meshes, computed by the checker.
-use Rattle.std.specs.Prelude.{◌≡◌, ℕ, ◌∷◌, ◌++◌, [], List, ℤ, pos, negsuc, Result, Ok, Err, codes, refl}
+use Rattle.std.specs.Prelude.{◌≡◌, ℕ, ◌∷◌, ◌++◌, [], List, ℤ, pos, negsuc, Some, Result, Ok, Err, codes, refl}
 use Rattle.geom_core.specs.declared.points.Pt.{Pt}
 use Rattle.geom_core.specs.declared.triangles.Tri.{Tri}
 use Rattle.geom_core.specs.EdgeSum.{same_point}
@@ -7,8 +7,9 @@ use Rattle.obj_source.specs.declared.faults.ObjFault.{ObjFault}
 use Rattle.obj_source.specs.declared.faults.ObjFault.TheVariants.{Line, Empty}
 use Rattle.obj_source.specs.declared.faults.ObjWhy.TheVariants.{BadNumber, OutOfRange, BadCorner, NoSuchVertex, ShortFace}
 use Rattle.obj_source.specs.Lines.{words_of, without_return}
+use Rattle.obj_source.specs.Readings.{HasNoFault, ReadsNoFault}
 use Rattle.obj_source.specs.Numerals.{coordinate_of, numeral_of, exponent_of, scaled}
-use Rattle.obj_source.specs.Mesh.{mesh, with_line, vertex_of, face_of, corner_of, vertex_named}
+use Rattle.obj_source.specs.Mesh.{MeshSoFar, nothing, mesh, read_lines, ended_lines, with_line, vertex_of, face_of, corner_of, vertex_named}
 use Rattle.geom_core.specs.Limits.{has_distinct_corners}
 
 abbrev point : ℤ → ℤ → ℤ → Pt
@@ -174,3 +175,19 @@ mesh-dropped_of_polygon = refl
 pub mesh-fan : with_last (line (codes "v -1 0 -1") ++ line (codes "f 4 3 2") ++ codes "f 1 2 3 4") ≡ Ok (tri d c b ∷ tri a b c ∷ tri a c d ∷ [])
 unfolding mesh with_line words_of without_return vertex_of face_of corner_of vertex_named coordinate_of numeral_of exponent_of scaled has_distinct_corners same_point
 mesh-fan = refl
+
+-- a fault in a line that has not ended is none yet, and one in a line that has ended is one
+abbrev one_vertex : MeshSoFar
+one_vertex = record { vertices = a ∷ []; triangles = [] }
+
+pub has_no_fault-open_line : HasNoFault 1024 (line (codes "v -1 0 1") ++ codes "f 9")
+unfolding with_line words_of without_return vertex_of coordinate_of numeral_of exponent_of scaled
+has_no_fault-open_line = (one_vertex, refl)
+
+pub has_fault-ended_line : read_lines 1024 nothing 1 (ended_lines (line (codes "v -1 0 1") ++ line (codes "f 9"))) ≡ Err (Line 2 ShortFace)
+unfolding with_line words_of without_return vertex_of face_of coordinate_of numeral_of exponent_of scaled
+has_fault-ended_line = refl
+
+pub reads_no_fault-open_line : ReadsNoFault 1024 (Some (codes "f 9" ++ line (codes " 9"))) (Some (line (codes " 9")))
+unfolding with_line words_of without_return
+reads_no_fault-open_line = (codes "f 9", refl, (nothing, refl))

@@ -1,19 +1,19 @@
 -- What the bytes that were read and taken in say of the whole text, at each end of the reading.
-use Rattle.std.proofs.Common.{◌≡◌, ℕ, ◌+◌, ◌≤◌, List, [], ◌++◌, length, take, drop, Option, Some, None, option_map, Result, Ok, Err, refl, ap, sym, ◌∙◌, append_assoc, arith}
+use Rattle.std.proofs.Common.{◌≡◌, ℕ, ◌+◌, ◌≤◌, List, [], ◌++◌, length, take, drop, Option, Some, None, option_map, Result, Err, refl, ap, sym, ◌∙◌, subst, append_assoc, arith}
 use Rattle.std.proofs.lemmas.List.{append-nil, take-append-drop, drop_at, length-take}
 use Rattle.std.specs.Option.{IfSome}
 use Rattle.geom_core.specs.declared.limits.TheConstants.{MAX_OBJ_BYTES}
 use Rattle.geom_core.specs.declared.triangles.Tri.{Tri}
-use Rattle.span_io.specs.Consumers.{FedToEnd, FedToLimit, FedToStop}
+use Rattle.span_io.specs.Consumers.{FedToEnd, FedToFailure, FedToLimit, FedToStop}
 use Rattle.span_io.specs.Reads.{Consumed}
 use Rattle.span_io.proofs.Gathered.{consumed-read_to_end}
 use Rattle.obj_source.specs.declared.faults.ObjFault.{ObjFault}
 use Rattle.obj_source.specs.declared.faults.ObjFault.TheVariants.{Line, TooMany, TooLong, Empty, Read, Memory}
 use Rattle.obj_source.specs.declared.obj_scanner.ObjScanner.{ObjScanner}
 use Rattle.obj_source.specs.Mesh.{mesh}
-use Rattle.obj_source.specs.Readings.{Answers, Refused}
+use Rattle.obj_source.specs.Readings.{Answers, Refused, HasNoFault, ReadsUpTo}
 use Rattle.obj_source.specs.Scanner.{HasTaken, IsFirstFault, OnLineFault, RefusedAtEnd}
-use Rattle.obj_source.proofs.TextLines.{mesh-fault, mesh-too_long}
+use Rattle.obj_source.proofs.TextLines.{LinesRead-no_fault, mesh-fault, mesh-too_long}
 
 -- the bytes were taken in, on a grid of this scale
 abbrev pub Takes : ℕ → ObjScanner → List ℕ → Type 0
@@ -79,3 +79,65 @@ pub refused_at_end : (scale : ℕ) (left after : Option (List ℕ)) (faults new_
 refused_at_end scale left after faults new_faults scanner fault end says =
     refused_end scale left after faults new_faults end.all.bytes fault end.all.consumed end.none_left
     (says scale end.all.bytes end.all.fed end.all.limited)
+
+-- what was taken in has no faulty line that ended
+taken-no_fault : (scale : ℕ) (scanner : ObjScanner) (text : List ℕ) → HasTaken scanner scale text → HasNoFault scale text
+taken-no_fault scale scanner text t =
+    (t.mesh_so_far, LinesRead-no_fault scale text t.mesh_so_far t.line t.begun t.lines)
+
+-- how far the source was read, for each end of the reading
+pub stop-reads_up_to : (scale : ℕ) (left after : Option (List ℕ)) (faults new_faults : ℕ) (fault : ObjFault) →
+    FedToStop (Takes scale) (StopsAt scale) MAX_OBJ_BYTES left after faults new_faults fault →
+    ReadsUpTo scale left after fault
+stop-reads_up_to scale left after faults new_faults (Line line why) stop = record {
+  before = stop.before;
+  piece = stop.piece;
+  consumed = stop.consumed;
+  one_read = stop.one_read;
+  no_fault = taken-no_fault scale stop.state stop.before stop.went_on;
+}
+stop-reads_up_to scale left after faults new_faults TooMany stop = record {
+  before = stop.before;
+  piece = stop.piece;
+  consumed = stop.consumed;
+  one_read = stop.one_read;
+  no_fault = taken-no_fault scale stop.state stop.before stop.went_on;
+}
+stop-reads_up_to scale left after faults new_faults TooLong stop = tt
+stop-reads_up_to scale left after faults new_faults Empty stop = tt
+stop-reads_up_to scale left after faults new_faults Read stop = absurd stop.stopped
+stop-reads_up_to scale left after faults new_faults Memory stop = tt
+
+pub failure-reads_up_to : (scale : ℕ) (left after : Option (List ℕ)) (faults new_faults : ℕ) (scanner : ObjScanner) →
+    FedToFailure (Takes scale) MAX_OBJ_BYTES left after faults new_faults scanner →
+    ReadsUpTo scale left after Read
+failure-reads_up_to scale left after faults new_faults scanner failure =
+    (failure.all.bytes, failure.all.consumed, taken-no_fault scale scanner failure.all.bytes failure.all.fed)
+
+no_piece : (left after : Option (List ℕ)) (text : List ℕ) → Consumed left after text → Consumed left after (text ++ [])
+no_piece left after text taken = subst (Consumed left after) (sym (append-nil text)) taken
+
+-- a faulty last line, which no LF ends: all was read
+pub end-reads_up_to : (scale : ℕ) (left after : Option (List ℕ)) (faults new_faults : ℕ) (scanner : ObjScanner) (fault : ObjFault) →
+    FedToEnd (Takes scale) MAX_OBJ_BYTES left after faults new_faults scanner →
+    ((scale : ℕ) (text : List ℕ) → HasTaken scanner scale text → length text ≤ MAX_OBJ_BYTES → RefusedAtEnd scale text fault) →
+    ReadsUpTo scale left after fault
+end-reads_up_to scale left after faults new_faults scanner (Line line why) end says = record {
+  before = end.all.bytes;
+  piece = [];
+  consumed = no_piece left after end.all.bytes end.all.consumed;
+  one_read = omega arith;
+  no_fault = taken-no_fault scale scanner end.all.bytes end.all.fed;
+}
+end-reads_up_to scale left after faults new_faults scanner TooMany end says = record {
+  before = end.all.bytes;
+  piece = [];
+  consumed = no_piece left after end.all.bytes end.all.consumed;
+  one_read = omega arith;
+  no_fault = taken-no_fault scale scanner end.all.bytes end.all.fed;
+}
+end-reads_up_to scale left after faults new_faults scanner TooLong end says = tt
+end-reads_up_to scale left after faults new_faults scanner Empty end says = tt
+end-reads_up_to scale left after faults new_faults scanner Read end says =
+    absurd (says scale end.all.bytes end.all.fed end.all.limited)
+end-reads_up_to scale left after faults new_faults scanner Memory end says = tt

@@ -6,9 +6,9 @@ use Rattle.std.proofs.lemmas.List.Elements.{All-nil, All-append}
 use Rattle.std.proofs.lemmas.List.Splits.{slice_split_none, slice_split_at, length-slice_split}
 use Rattle.std.proofs.lemmas.Bool.Decides.{nat_tests}
 use Rattle.std.proofs.lemmas.Bool.{cases_lt}
-use Rattle.std.proofs.Math.Seq.{take-append-add}
 use Rattle.geom_core.specs.declared.limits.TheConstants.{MAX_OBJ_BYTES}
 use Rattle.geom_core.specs.declared.triangles.Tri.{Tri}
+use Rattle.span_io.proofs.Feeding.{take_over}
 use Rattle.obj_source.specs.declared.faults.ObjFault.{ObjFault}
 use Rattle.obj_source.specs.declared.faults.ObjFault.TheVariants.{TooLong}
 use Rattle.obj_source.specs.Lines.{is_line_feed, lines_of, words_of}
@@ -91,11 +91,6 @@ mesh-long scale text long = let e : leb (length text) MAX_OBJ_BYTES ≡ false = 
 abbrev too_long_after : Result MeshSoFar ObjFault → Result (List Tri) ObjFault
 too_long_after r = r >>= (λ mesh_so_far. Err TooLong)
 
-pub take_over : (n : ℕ) (front rest : List ℕ) → length front ≤ n → take n (front ++ rest) ≡ front ++ take (n - length front) rest
-take_over n front rest short =
-    let e : n ≡ length front + (n - length front) = omega arith in
-    ap (λ m. take m (front ++ rest)) e ∙ take-append-add front rest (n - length front)
-
 -- a first fault among the bytes that are looked at
 pub mesh-fault : (scale : ℕ) (text rest : List ℕ) (fault : ObjFault) → length text ≤ MAX_OBJ_BYTES → IsFirstFault scale text fault → mesh scale (text ++ rest) ≡ Err fault
 mesh-fault scale text rest fault short first =
@@ -119,6 +114,16 @@ mesh-too_long scale text rest mesh_so_far line begun long so_far =
     ∙ ap too_long_after
     (so_far.ended [] ∙ ap (λ l. read_lines scale mesh_so_far line (ended_lines l)) (append-nil begun)
     ∙ ap (read_lines scale mesh_so_far line) (ended_lines-one begun so_far.one_line))
+
+-- the lines that ended have no fault
+pub LinesRead-no_fault : (scale : ℕ) (text : List ℕ) (mesh_so_far : MeshSoFar) (line : ℕ) (begun : List ℕ) →
+    LinesRead scale text mesh_so_far line begun →
+    read_lines scale nothing 1 (ended_lines text) ≡ Ok mesh_so_far
+LinesRead-no_fault scale text mesh_so_far line begun so_far =
+    ap (λ l. read_lines scale nothing 1 (ended_lines l)) (sym (append-nil text))
+    ∙ so_far.ended []
+    ∙ ap (λ l. read_lines scale mesh_so_far line (ended_lines l)) (append-nil begun)
+    ∙ ap (read_lines scale mesh_so_far line) (ended_lines-one begun so_far.one_line)
 
 -- the last line, which no LF ends
 pub mesh-last : (scale : ℕ) (text : List ℕ) (mesh_so_far : MeshSoFar) (line : ℕ) (begun : List ℕ) → length text ≤ MAX_OBJ_BYTES → LinesRead scale text mesh_so_far line begun → mesh scale text ≡ (with_line scale mesh_so_far line (words_of begun) >>= (λ more. Ok more)) >>= some_triangles

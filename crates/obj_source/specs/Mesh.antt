@@ -1,6 +1,6 @@
 -- The triangles of an OBJ text, or its first fault (Wavefront OBJ): `v` lines are vertices, `f` lines are
 -- polygons over the vertices that stand above, and every other line is passed over.
-use Rattle.std.specs.Prelude.{Bool, false, ◌&&◌, ◌==◌, nat_lt, nat_le, ℕ, ℤ, ◌+◌, ◌-◌, ◌^◌, List, [], ◌∷◌, ◌++◌, length, take, drop, filter, slice_index, Option, Some, None, option_map, slice_get, Result, Ok, Err, if◌then◌else◌}
+use Rattle.std.specs.Prelude.{Bool, false, ◌&&◌, ◌==◌, nat_lt, nat_le, ℕ, ℤ, ◌+◌, ◌-◌, List, [], ◌∷◌, ◌++◌, length, take, drop, filter, slice_index, Option, Some, None, option_map, slice_get, Result, Ok, Err, if◌then◌else◌}
 use Rattle.std.specs.List.{before_first}
 use Rattle.std.specs.Str.Parse.{digits_value}
 use Rattle.geom_core.specs.declared.limits.TheConstants.{MAX_OBJ_BYTES, MAX_TRIANGLES}

@@ -1,7 +1,7 @@
 ghost use Rattle.std.specs.Prelude.{◌≡◌, ◌≤◌, IfOk, IfErr, OnOk};
 ghost use Rattle.geom_core.specs.Limits.{AreGridTriangles, IsScale};
 ghost use Rattle.span_io.specs.Reads.{ReadToEnd};
-ghost use Rattle.obj_source.specs.Readings.{Listed, Refused};
+ghost use Rattle.obj_source.specs.Readings.{Listed, ReadsUpTo, Refused};
 
 use crate::faults::ObjFault;
 use crate::obj_scanner::ObjScanner;
@@ -32,6 +32,7 @@ pub fn read_obj<S: Source>(alloc: Global, src: &mut S, scale: u32) -> Result<Vec
 
     ensures refused { IfErr result (Refused scale (S.left src.old) (S.left src.new)
         (S.faults src.old) (S.faults src.new)) }
+    ensures read_up_to { IfErr result (ReadsUpTo scale (S.left src.old) (S.left src.new)) }
     ensures fault_count { S.faults src.old ≤ S.faults src.new }
 {
     let mut scanner = ObjScanner::of(alloc, scale);

@@ -2,14 +2,14 @@
 use Rattle.std.proofs.Common.{◌≡◌, ℕ, ◌-◌, ◌^◌, List, [], ◌∷◌, Bool, true, false, None, Some, Ok, Err, inl, inr, refl, arith, lit<, lit≤}
 use Rattle.span_io.specs.declared.sources.Got.TheVariants as got
 use Rattle.span_io.specs.declared.sinks.Took.TheVariants as took
-use Rattle.span_io.specs.Consumers.{FeedDoes, FedAll, FedToEnd, FedToFailure, FedToLimit, FedToStop}
+use Rattle.span_io.specs.Consumers.{FeedDoes, FedToEnd, FedToFailure, FedToLimit, FedToStop}
 use Rattle.span_io.specs.declared.consumers.Fed.TheVariants as fed
 use Rattle.span_io.specs.Faults.{raised, Rose}
 use Rattle.span_io.specs.Plans.{Plan}
 use Rattle.span_io.specs.Puts.{Appended, flushed_after}
 use Rattle.span_io.specs.Reads.{Consumed, ReadToEnd}
 use Rattle.span_io.specs.StdForms.{got_from, took_from}
-use Rattle.span_io.specs.Texts.{IsText, IsLonger}
+use Rattle.span_io.specs.Texts.{IsText, IsLonger, FailsWithin}
 use Rattle.span_io.specs.MemorySources.{SourceState, read_answer, after_read}
 use Rattle.span_io.specs.MemorySinks.{SinkState, write_answer, after_write, after_finish}
 
@@ -169,6 +169,7 @@ fed_to_stop_2 = record {
   consumed = refl;
   limited = lit≤ tt;
   within = lit≤ tt;
+  one_read = lit≤ tt;
   state = 1 ∷ [];
   went_on = refl;
   stopped = (refl, refl);
@@ -184,3 +185,11 @@ is_text_other same = cc
 
 pub is_longer_3 : IsLonger 2 (Some (1 ∷ 2 ∷ 3 ∷ 4 ∷ [])) (Some (4 ∷ [])) 5 5
 is_longer_3 = record { longer = lit< tt; read = refl; no_fault = refl }
+
+-- a text of exactly the limit is not longer
+pub is_longer_not_2 : IsLonger 2 (Some (1 ∷ 2 ∷ [])) (Some []) 5 5 → ⊥
+is_longer_not_2 long = omega (arith, long.longer)
+
+-- the read after the limit's bytes fails, but none after the byte too many
+pub fails_within_2 : FailsWithin 2 (Some (1 ∷ 2 ∷ 3 ∷ [])) (Some (3 ∷ [])) 4 5
+fails_within_2 = record { bytes = 1 ∷ 2 ∷ []; consumed = refl; limited = lit≤ tt; rose = rose_from_4 }

@@ -1,11 +1,12 @@
 -- The loop of reads: what the consumer was fed so far, and what each end of the loop makes of it.
-use Rattle.std.proofs.Common.{◌≡◌, ℕ, ◌+◌, ◌-◌, ◌<◌, ◌≤◌, min, List, [], ◌++◌, length, take, Option, refl, sym, ◌∙◌, ap, subst, inl, inr, arith, append_assoc, length-append}
+use Rattle.std.proofs.Common.{◌≡◌, ℕ, ◌+◌, ◌-◌, ◌<◌, ◌≤◌, min, List, ◌++◌, length, take, Option, sym, ◌∙◌, ap, subst, inl, inr, arith, length-append}
 use Rattle.std.proofs.Math.Seq.{take-append-add}
 use Rattle.std.proofs.lemmas.Bool.{cases_lt}
 use Rattle.std.proofs.lemmas.List.{take_all, take-take, length-take}
-use Rattle.span_io.specs.Consumers.{FedAll, FedToEnd, FedToFailure, FedToLimit, FedToStop}
-use Rattle.span_io.specs.Reads.{Consumed, GotBytes, GotEnd, GotFailed}
-use Rattle.span_io.proofs.Streams.{consumed_nothing, consumed-append, consumed_got}
+use Rattle.geom_core.specs.declared.limits.TheConstants.{READ_BYTES}
+use Rattle.span_io.specs.Consumers.{FedAll, FedToStop}
+use Rattle.span_io.specs.Reads.{Consumed, GotBytes}
+use Rattle.span_io.proofs.Streams.{consumed-append, consumed_got}
 
 -- so many bytes were read, and the consumer was fed those within the limit
 pub record FedSoFar {C : Type 0} (HasFed : C → List ℕ → Type 0) (limit : ℕ) (left new_left : Option (List ℕ)) (count : ℕ) (consumer : C) : Type 0 where
@@ -13,17 +14,6 @@ pub record FedSoFar {C : Type 0} (HasFed : C → List ℕ → Type 0) (limit : �
   pub consumed : Consumed left new_left bytes
   pub counted : length bytes ≡ count
   pub fed : HasFed consumer (take limit bytes)
-
-take_none : (limit : ℕ) → take {A = ℕ} limit [] ≡ []
-take_none limit = take_all limit [] (omega arith)
-
-pub fed_nothing : {C : Type 0} (HasFed : C → List ℕ → Type 0) (limit : ℕ) (left : Option (List ℕ)) (consumer : C) → HasFed consumer [] → FedSoFar HasFed limit left left 0 consumer
-fed_nothing HasFed limit left consumer unfed = record {
-  bytes = [];
-  consumed = consumed_nothing left;
-  counted = refl;
-  fed = subst (HasFed consumer) (sym (take_none limit)) unfed;
-}
 
 -- while the limit is not passed, all bytes were fed
 pub fed_all : {C : Type 0} (HasFed : C → List ℕ → Type 0) (limit : ℕ) (left new_left : Option (List ℕ)) (count : ℕ) (consumer : C) → FedSoFar HasFed limit left new_left count consumer → count ≤ limit → FedAll HasFed limit left new_left consumer
@@ -35,7 +25,8 @@ fed_all HasFed limit left new_left count consumer so_far short =
       fed = subst (HasFed consumer) (take_all limit so_far.bytes within) so_far.fed;
     }
 
-take_over : (n : ℕ) (front rest : List ℕ) → length front ≤ n → take n (front ++ rest) ≡ front ++ take (n - length front) rest
+-- the first n of two lists, of which the first is no longer
+pub take_over : (n : ℕ) (front rest : List ℕ) → length front ≤ n → take n (front ++ rest) ≡ front ++ take (n - length front) rest
 take_over n front rest short =
     let e : n ≡ length front + (n - length front) = omega arith in
     ap (λ m. take m (front ++ rest)) e ∙ take-append-add front rest (n - length front)
@@ -70,42 +61,18 @@ fed_more HasFed limit left mid new_left faults new_faults count old new buffer n
     }
 
 -- the consumer stopped at a piece
-pub fed_to_stop : {C T : Type 0} (HasFed : C → List ℕ → Type 0) (Stops : List ℕ → T → Type 0) (limit : ℕ) (left mid new_left : Option (List ℕ)) (first_faults faults new_faults count : ℕ) (old : C) (buffer : List ℕ) (n : ℕ) (outcome : T) → FedSoFar HasFed limit left mid count old → count ≤ limit → n ≤ limit + 1 - count → faults ≡ first_faults → GotBytes mid new_left faults new_faults buffer n → ((bytes : List ℕ) → HasFed old bytes → Stops (bytes ++ take (min n (limit - count)) buffer) outcome) → FedToStop HasFed Stops limit left new_left first_faults new_faults outcome
+pub fed_to_stop : {C T : Type 0} (HasFed : C → List ℕ → Type 0) (Stops : List ℕ → T → Type 0) (limit : ℕ) (left mid new_left : Option (List ℕ)) (first_faults faults new_faults count : ℕ) (old : C) (buffer : List ℕ) (n : ℕ) (outcome : T) → FedSoFar HasFed limit left mid count old → count ≤ limit → n ≤ limit + 1 - count → n ≤ READ_BYTES → faults ≡ first_faults → GotBytes mid new_left faults new_faults buffer n → ((bytes : List ℕ) → HasFed old bytes → Stops (bytes ++ take (min n (limit - count)) buffer) outcome) → FedToStop HasFed Stops limit left new_left first_faults new_faults outcome
 unfolding fed_all
-fed_to_stop HasFed Stops limit left mid new_left first_faults faults new_faults count old buffer n outcome so_far short within no_fault got stops =
+fed_to_stop HasFed Stops limit left mid new_left first_faults faults new_faults count old buffer n outcome so_far short within one_read no_fault got stops =
     let all = fed_all HasFed limit left mid count old so_far short in record {
       before = so_far.bytes;
       piece = take n buffer;
       consumed = consumed-append left mid new_left so_far.bytes (take n buffer) so_far.consumed (consumed_got mid new_left faults new_faults buffer n got);
       limited = omega (arith, so_far.counted);
       within = omega (arith, so_far.counted, length-take n buffer);
+      one_read = omega (arith, length-take n buffer);
       state = old;
       went_on = all.fed;
       stopped = subst (λ l. Stops l outcome) (sym (take_piece limit count so_far.bytes buffer n so_far.counted short)) (stops so_far.bytes all.fed);
       no_fault = got.no_fault ∙ no_fault;
     }
-
--- the source's end
-pub fed_to_end : {C : Type 0} (HasFed : C → List ℕ → Type 0) (limit : ℕ) (left mid new_left : Option (List ℕ)) (first_faults faults new_faults count : ℕ) (consumer : C) → FedSoFar HasFed limit left mid count consumer → count ≤ limit → faults ≡ first_faults → GotEnd mid new_left faults new_faults → FedToEnd HasFed limit left new_left first_faults new_faults consumer
-fed_to_end HasFed limit left mid new_left first_faults faults new_faults count consumer so_far short no_fault got = record {
-  all = subst (λ after. FedAll HasFed limit left after consumer) (sym got.stays) (fed_all HasFed limit left mid count consumer so_far short);
-  none_left = rw got.stays got.none_left;
-  no_fault = got.no_fault ∙ no_fault;
-}
-
--- a failed read
-pub fed_to_failure : {C : Type 0} (HasFed : C → List ℕ → Type 0) (limit : ℕ) (left mid new_left : Option (List ℕ)) (first_faults faults new_faults count : ℕ) (consumer : C) → FedSoFar HasFed limit left mid count consumer → count ≤ limit → faults ≡ first_faults → GotFailed mid new_left faults new_faults → FedToFailure HasFed limit left new_left first_faults new_faults consumer
-fed_to_failure HasFed limit left mid new_left first_faults faults new_faults count consumer so_far short no_fault got = record {
-  all = subst (λ after. FedAll HasFed limit left after consumer) (sym got.stays) (fed_all HasFed limit left mid count consumer so_far short);
-  rose = rw (← no_fault) got.rose;
-}
-
--- a byte too many
-pub fed_to_limit : {C : Type 0} (HasFed : C → List ℕ → Type 0) (limit : ℕ) (left new_left : Option (List ℕ)) (faults new_faults count : ℕ) (consumer : C) → FedSoFar HasFed limit left new_left count consumer → count ≡ limit + 1 → new_faults ≡ faults → FedToLimit HasFed limit left new_left faults new_faults consumer
-fed_to_limit HasFed limit left new_left faults new_faults count consumer so_far long no_fault = record {
-  bytes = so_far.bytes;
-  consumed = so_far.consumed;
-  too_long = so_far.counted ∙ long;
-  fed = so_far.fed;
-  no_fault = no_fault;
-}

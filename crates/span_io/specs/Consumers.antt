@@ -1,5 +1,6 @@
 -- What one feed of a consumer does, and what reading a source into a consumer does, for each of its ends.
 use Rattle.std.specs.Prelude.{◌≡◌, ◌≤◌, ℕ, ◌+◌, List, [], ◌++◌, length, take, Option, IfSome}
+use Rattle.geom_core.specs.declared.limits.TheConstants.{READ_BYTES}
 use Rattle.span_io.specs.declared.consumers.Fed.{Fed}
 use Rattle.span_io.specs.declared.consumers.Fed.TheVariants as fed
 use Rattle.span_io.specs.declared.read_loop.ReadEnd.{ReadEnd}
@@ -42,13 +43,14 @@ pub record FedToLimit {C : Type 0} (HasFed : C → List ℕ → Type 0) (limit :
   pub no_fault : new_faults ≡ faults
 
 -- The consumer took the bytes of all pieces but the last, and stopped at this one, of which it was fed those
--- within the limit. No byte was read after it.
+-- within the limit. No byte was read after this piece, which came of one read.
 pub record FedToStop {C T : Type 0} (HasFed : C → List ℕ → Type 0) (Stops : List ℕ → T → Type 0) (limit : ℕ) (left new_left : Option (List ℕ)) (faults new_faults : ℕ) (outcome : T) : Type 0 where
   pub before : List ℕ
   pub piece : List ℕ
   pub consumed : Consumed left new_left (before ++ piece)
   pub limited : length before ≤ limit
   pub within : length before + length piece ≤ limit + 1
+  pub one_read : length piece ≤ READ_BYTES
   pub state : C
   pub went_on : HasFed state before
   pub stopped : Stops (take limit (before ++ piece)) outcome

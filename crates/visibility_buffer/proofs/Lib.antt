@@ -1,2 +1,3 @@
+mod CachedPoints
 mod DrawnTriangle
 mod Greatest

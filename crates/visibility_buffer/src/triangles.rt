@@ -3,16 +3,17 @@ ghost use Rattle.geom_core.specs.declared.limits.TheConstants.{TRIANGLES_PER_CLU
 ghost use Rattle.geom_core.specs.Picture.{drawn};
 ghost use Rattle.geom_core.specs.Limits.{HasGridCorners, IsClusterNumber, IsPicture};
 
+use crate::vertex_caches::VertexCache;
 use geom_core::{Size, Tri};
 use raster64::{PixelSink, for_each_word};
-use view_camera::Camera;
 
-/// Draws the triangle `tri` as the camera sees it, with the words of triangle `number` of cluster `cluster`.
+/// Draws the triangle `tri` as the cache's camera sees it, with the words of triangle `number` of cluster
+/// `cluster`.
 ///
 /// A triangle with a corner nearer than the near plane is not drawn. A triangle that is off screen is not
 /// projected.
 pub fn draw_triangle<T: PixelSink>(
-    camera: &Camera,
+    cache: &mut VertexCache,
     size: Size,
     cluster: u32,
     number: u32,
@@ -24,27 +25,28 @@ pub fn draw_triangle<T: PixelSink>(
     requires cluster_limit { IsClusterNumber cluster }
     requires triangle_limit { number < TRIANGLES_PER_CLUSTER }
     requires sink_size { size.width * size.height ≤ T.pixels to.old }
+    ensures same_camera { cache.new.camera ≡ cache.old.camera }
     ensures same_size { T.pixels to.new ≡ T.pixels to.old }
     ensures shown { (rest : T.Rest) (before : List (ℕ × ℕ)) → T.shows to.old rest before
-        → T.shows to.new rest (before ++ drawn camera.now size
+        → T.shows to.new rest (before ++ drawn cache.old.camera size
         (record { cluster = cluster; place = number; tri = tri })) }
 {
-    let Some(a) = camera.to_view(tri.a) else {
+    let Some(a) = cache.to_view(tri.a) else {
         return;
     };
-    let Some(b) = camera.to_view(tri.b) else {
+    let Some(b) = cache.to_view(tri.b) else {
         return;
     };
-    let Some(c) = camera.to_view(tri.c) else {
+    let Some(c) = cache.to_view(tri.c) else {
         return;
     };
-    if camera.is_off_screen(size, a, b, c) {
+    if cache.camera.is_off_screen(size, a, b, c) {
         return;
     }
     let (a, b, c) = (
-        camera.project(size, a),
-        camera.project(size, b),
-        camera.project(size, c),
+        cache.camera.project(size, a),
+        cache.camera.project(size, b),
+        cache.camera.project(size, c),
     );
     for_each_word(a, b, c, cluster, number, size, to);
 }
