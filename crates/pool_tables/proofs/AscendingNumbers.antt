@@ -54,7 +54,8 @@ among-searched numbers number r up search = told r (searched numbers number r se
         sym (not-among numbers number (λ k within e.
         ⊎_elim (λ lt. omega (arith, h.1 k lt, e)) (λ ge. omega (arith, h.2 k ge within, e)) (cases_lt k i)))
 
-low-among : (low : ℕ) (numbers : List ℕ) (q : ℕ) → ascends_from low numbers ≡ true → is_among numbers q ≡ true → low ≤ q
+-- numbers that ascend from a lowest one on are not below it
+pub low-among : (low : ℕ) (numbers : List ℕ) (q : ℕ) → ascends_from low numbers ≡ true → is_among numbers q ≡ true → low ≤ q
 low-among low [] q up among = cc
 low-among low (n ∷ numbers) q up among =
     let parts = and-both (nat_le low n) (ascends_from (n + 1) numbers) up in

@@ -3,7 +3,7 @@ use Rattle.std.proofs.Common.{◌≡◌, ◌≢◌, ℕ, suc, ◌+◌, ◌-◌, 
 use Rattle.std.specs.List.{count_by, list_any}
 use Rattle.std.proofs.Math.Seq.{drop-cons}
 use Rattle.std.proofs.lemmas.Bool.{cases_eq}
-use Rattle.std.proofs.lemmas.List.Sums.{count_by_more_yes, count_by_more_no}
+use Rattle.std.proofs.lemmas.List.Sums.{count_by_more_yes, count_by_more_no, sum_by-take-le}
 use Rattle.journal.specs.Layout.{ascends}
 use Rattle.pool_rules.specs.Numbers.{is_among}
 use Rattle.pool_rules.proofs.Tests.{or-left}
@@ -100,6 +100,20 @@ times-here numbers i number within is = count_by_more_yes (λ n. n == number) nu
 
 times-other : (numbers : List ℕ) (i number : ℕ) → i < length numbers → number ≢ get_or numbers i 0 → times (take (i + 1) numbers) number ≡ times (take i numbers) number
 times-other numbers i number within other = count_by_more_no (λ n. n == number) numbers i 0 within (ne-eqb (get_or numbers i 0) number (λ e. other (sym e)))
+
+-- the page at a place is among all numbers more often than among those before it
+pub times-ahead : (numbers : List ℕ) (i number : ℕ) → i < length numbers → number ≡ get_or numbers i 0 →
+    times (take i numbers) number + 1 ≤ times numbers number
+times-ahead numbers i number within is =
+    omega (arith, times-here numbers i number within is, sum_by-take-le (λ n. cond (n == number) 1 0) numbers (i + 1))
+
+pub more-dependents : (uppers : List ℕ) (old new : PageRecords) → HaveMoreDependents uppers old new → (page : ℕ) →
+    (record_at new.records page).dependents ≡ (record_at old.records page).dependents + times uppers page
+more-dependents uppers old new more page = ap (λ (x : PageRecord). x.dependents) (more.records page)
+
+pub fewer-dependents : (uppers : List ℕ) (old new : PageRecords) → HaveFewerDependents uppers old new → (page : ℕ) →
+    (record_at new.records page).dependents ≡ (record_at old.records page).dependents - times uppers page
+fewer-dependents uppers old new fewer page = ap (λ (x : PageRecord). x.dependents) (fewer.records page)
 
 pub HaveMoreDependents-step : (i page : ℕ) (uppers : List ℕ) (old now : PageRecords) → i < length uppers → page ≡ get_or uppers i 0 → page < length now.records → HaveMoreDependents (take i uppers) old now → HaveMoreDependents (take (i + 1) uppers) old (with_record now page (record (record_at now.records page) { dependents = (record_at now.records page).dependents + 1 }))
 HaveMoreDependents-step i page uppers old now within is below more =

@@ -28,7 +28,7 @@ pub record HaveMoreDependents (uppers : List ℕ) (old new : PageRecords) : Type
     dependents = (record_at old.records page).dependents + times uppers page;
   }
 
--- each page has one dependent less for each time that it is among these, down to none
+-- each page has one dependent less for each time that it is among these
 pub record HaveFewerDependents (uppers : List ℕ) (old new : PageRecords) : Type 0 where
   pub roots : new.roots ≡ old.roots
   pub len : length new.records ≡ length old.records

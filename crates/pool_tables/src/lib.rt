@@ -13,5 +13,5 @@ mod page_table;
 
 pub use ascending::is_among_ascending;
 pub use page_list::{PageList, PagesLeft};
-pub use page_record::{MakerId, NO_RECORD, PageRecord, is_in_snapshot};
+pub use page_record::{MakerId, NO_RECORD, PageRecord, is_in_snapshot, opening_record};
 pub use page_table::PageTable;

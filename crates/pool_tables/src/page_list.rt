@@ -1,4 +1,4 @@
-ghost use Rattle.std.specs.Prelude.{◌≡◌, ◌==◌, ◌++◌, ◌∷◌, ◌<◌, [], true, false, IfOk};
+ghost use Rattle.std.specs.Prelude.{◌≡◌, ◌==◌, ◌++◌, ◌∷◌, ◌<◌, [], true, false, IfOk, None};
 ghost use Rattle.std.specs.Option.{option_to_list};
 ghost use Rattle.pool_rules.specs.Numbers.{is_among};
 ghost use Rattle.pool_tables.specs.ListedPages.{no_pages, without};
@@ -46,6 +46,13 @@ impl PageList {
             next: vec![in alloc; capacity; places]?,
             previous: vec![in alloc; capacity; places]?,
         })
+    }
+
+    /// Returns the number of pages that may be in the list: those below it.
+    pub fn capacity(&self) -> u32
+        ensures { result ≡ self.now.capacity }
+    {
+        self.end
     }
 
     /// Appends the page, which is not in the list.
@@ -121,7 +128,8 @@ impl<'a> Model for PagesLeft<'a> {
 impl<'a> PagesLeft<'a> {
     /// Takes the first of the pages that are left.
     pub fn next(&mut self) -> Option<u32>
-        ensures { self.old ≡ option_to_list result ++ self.new }
+        ensures first { self.old ≡ option_to_list result ++ self.new }
+        ensures end { result ≡ None → self.old ≡ [] }
     {
         let page = self.next[self.from as usize];
         if page == self.end {

@@ -1,5 +1,6 @@
 ghost use Rattle.std.specs.Prelude.{◌≡◌};
 ghost use Rattle.pool_tables.specs.Eviction.{is_in_snapshot};
+ghost use Rattle.pool_tables.specs.PageRecords.{opening_record};
 
 /// The number of a maker: 0 for the frames, 1 and so on for the loaders.
 #[derive(Clone, Copy, Debug, PartialEq, Eq)]
@@ -16,7 +17,7 @@ pub struct PageRecord {
     pub load_ended_at: u64,
     /// How many live frames pin the page explicitly, and not by what was resident at their Pin.
     pub pins: u64,
-    /// How many resident or loading pages depend on the page directly.
+    /// How many resident or loading pages that are no root pages depend on the page directly.
     pub dependents: u32,
     /// The maker that is loading the page, if one is.
     pub loader: Option<MakerId>,
@@ -34,6 +35,15 @@ pub const NO_RECORD: PageRecord = PageRecord {
     loader: None,
     resident: false,
 };
+
+/// Returns the record of a page after no entry, where the pages below `roots` are root pages.
+pub fn opening_record(roots: u32, page: u32) -> PageRecord
+    ensures { result ≡ opening_record roots page }
+{
+    let mut record = NO_RECORD;
+    record.resident = page < roots;
+    record
+}
 
 /// Whether a page that was installed at this count of entries was resident at the count of the snapshot.
 pub fn is_in_snapshot(snapshot: Option<u64>, installed_at: u64) -> bool

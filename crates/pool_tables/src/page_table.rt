@@ -1,13 +1,15 @@
-ghost use Rattle.std.specs.Prelude.{◌≡◌, ◌≢◌, ◌+◌, ◌-◌, ◌^◌, ◌<◌, ◌≤◌, ℕ, length, true, false, None, Some, is_some, find, count_by};
+ghost use Rattle.std.specs.Prelude.{◌≡◌, ◌≢◌, ◌+◌, ◌-◌, ◌^◌, ◌<◌, ◌≤◌, ℕ, length, true, false, None, Some, is_some, find, count_by, IfOk};
 ghost use Rattle.journal.specs.Layout.{ascends};
 ghost use Rattle.pool_rules.specs.Numbers.{is_among};
-ghost use Rattle.pool_tables.specs.Changes.{AreUsed, HaveMoreDependents, HaveFewerDependents};
+ghost use Rattle.pool_tables.specs.Changes.{AreUsed, HaveMoreDependents, HaveFewerDependents, times};
 ghost use Rattle.pool_tables.specs.Eviction.{is_candidate, may_be_evicted, IsFirst};
-ghost use Rattle.pool_tables.specs.PageRecords.{record_at, with_record, is_record_held, IsUsedBefore};
+ghost use Rattle.pool_tables.specs.PageRecords.{record_at, with_record, is_record_held, opening_records, residents, IsUsedBefore};
 
 use crate::ascending::is_among_ascending;
 use crate::page_list::{PageList, PagesLeft};
-use crate::page_record::{MakerId, NO_RECORD, PageRecord};
+use crate::page_record::{MakerId, NO_RECORD, PageRecord, opening_record};
+use geom_core::Memory;
+use std::alloc::Global;
 use std::marker::Model;
 
 /// A record by page, and the resident pages that are no root pages in the order in which they may come to
@@ -35,6 +37,18 @@ impl Model for PageTable {
 
     ghost invariant = { λ table. IsUseOrder table.roots table.records.items table.order
         × IsHeldCount table.records.items table.held };
+}
+
+/// Returns the records of the pages after no entry.
+fn opening_records(alloc: Global, pages: u32, roots: u32) -> Result<Vec<PageRecord>, Memory>
+    ensures { IfOk result (λ records. records.items ≡ (opening_records pages roots).records) }
+{
+    let numbers = 0..pages;
+    Ok(
+        numbers
+            .map(|page| opening_record(roots, page))
+            .collect(alloc)?,
+    )
 }
 
 /// Returns the page's record; `NO_RECORD` if there is no such page.
@@ -66,6 +80,31 @@ fn first_free(
 }
 
 impl PageTable {
+    /// Returns the table after no entry: the root pages, which are the first ones, are resident.
+    pub fn new(alloc: Global, pages: u32, roots: u32) -> Result<PageTable, Memory>
+        requires root_range { roots ≤ pages }
+        ensures { IfOk result (λ table. table ≡ opening_records pages roots) }
+    {
+        Ok(PageTable {
+            roots,
+            records: opening_records(alloc, pages, roots)?,
+            order: PageList::new(alloc, pages)?,
+            held: u64::from(roots),
+        })
+    }
+
+    /// Returns the resident pages, ascending.
+    pub fn residents(&self, alloc: Global) -> Result<Vec<u32>, Memory>
+        ensures { IfOk result (λ pages. pages.items ≡ residents self.now.records) }
+    {
+        let numbers = 0..self.order.capacity();
+        Ok(
+            numbers
+                .filter(|page| self.get(*page).resident)
+                .collect(alloc)?,
+        )
+    }
+
     /// Returns the page's record; `NO_RECORD` if there is no such page.
     pub fn get(&self, page: u32) -> PageRecord
         ensures { result ≡ record_at self.now.records page }
@@ -252,12 +291,13 @@ impl PageTable {
     /// Records that one page less depends on the page.
     fn remove_dependent(&mut self, page: u32)
         requires page_range { page < length self.old.records }
+        requires counted { 0 < (record_at self.old.records page).dependents }
         ensures { self.new ≡ with_record self.old page (record (record_at self.old.records page) {
           dependents = (record_at self.old.records page).dependents - 1;
         }) }
     {
         let mut upper = self.get(page);
-        upper.dependents = upper.dependents.saturating_sub(1);
+        upper.dependents -= 1;
         self.replace(page, upper);
     }
 
@@ -265,7 +305,7 @@ impl PageTable {
     pub fn add_dependents(&mut self, uppers: &[u32])
         requires page_range { (p : ℕ) → is_among uppers.now p ≡ true → p < length self.old.records }
         requires room { (p : ℕ) →
-            (record_at self.old.records p).dependents + length uppers.now < 2 ^ 32 }
+            (record_at self.old.records p).dependents + times uppers.now p < 2 ^ 32 }
         ensures { HaveMoreDependents uppers.now self.old self.new }
     {
         for upper in uppers {
@@ -276,6 +316,7 @@ impl PageTable {
     /// Records that a page with these uppers is no longer resident or being loaded.
     pub fn remove_dependents(&mut self, uppers: &[u32])
         requires page_range { (p : ℕ) → is_among uppers.now p ≡ true → p < length self.old.records }
+        requires counted { (p : ℕ) → times uppers.now p ≤ (record_at self.old.records p).dependents }
         ensures { HaveFewerDependents uppers.now self.old self.new }
     {
         for upper in uppers {
