@@ -4,5 +4,8 @@ pub mod Changes
 pub mod Examples
 pub mod Links
 pub mod Openings
+pub mod PageCounts
+pub mod PageEvents
+pub mod PoolPages
 pub mod Searches
 pub mod UseOrder

@@ -3,3 +3,4 @@ pub mod Eviction
 pub mod Internal
 pub mod ListedPages
 pub mod PageRecords
+pub mod PoolPages
