@@ -6,6 +6,8 @@ pub mod Links
 pub mod Openings
 pub mod PageCounts
 pub mod PageEvents
+pub mod PageRanges
 pub mod PoolPages
 pub mod Searches
 pub mod UseOrder
+pub mod Victims

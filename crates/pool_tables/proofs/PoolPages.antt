@@ -66,7 +66,7 @@ pub last_used-at : (layout : Layout) (s : State) (table : PageRecords) → ArePa
 last_used-at layout s table are page =
     sym (get_or-map used_of table.records page no_record) ∙ ap (λ counts. get_or counts page 0) are.last_used
 
-is_some-mapped : (loader : Option MakerId) → is_some loader ≡ is_some (option_map (λ (m : MakerId). m.0) loader)
+pub is_some-mapped : (loader : Option MakerId) → is_some loader ≡ is_some (option_map (λ (m : MakerId). m.0) loader)
 is_some-mapped None = refl
 is_some-mapped (Some maker) = refl
 
