@@ -105,7 +105,7 @@ roots-counted roots (suc n) =
     few-more roots n (rooted roots n) (rooted roots (suc n)) (nat_lt n roots) refl (rooted-more roots n) (roots-counted roots n)
 
 -- an upper lies below its page
-upper-below : (layout : Layout) (page upper : ℕ) → InBounds layout → page < layout.pages → is_upper layout upper page ≡ true → upper < page
+pub upper-below : (layout : Layout) (page upper : ℕ) → InBounds layout → page < layout.pages → is_upper layout upper page ≡ true → upper < page
 upper-below layout page upper bounds below h =
     (Decides-ltb upper page).0 (all-at_any (λ u. nat_lt u page) (uppers_of layout page) upper (bounds.uppers page (omega (arith, below, bounds.list_a_page))).1 h)
 
