@@ -1,4 +1,5 @@
 pub mod Allowed
+pub mod Arms
 pub mod Choices
 pub mod EventExamples
 pub mod Examples

@@ -9,7 +9,7 @@ use Rattle.journal.specs.declared.entries.Entry.{Entry}
 use Rattle.journal.specs.declared.entries.What.{What}
 use Rattle.journal.specs.declared.entries.What.TheVariants.{Settle}
 use Rattle.journal.specs.declared.layouts.Layout.{Layout}
-use Rattle.journal.specs.Layout.{InBounds, ascends, all_below, uppers_of, is_upper}
+use Rattle.journal.specs.Layout.{InBounds, all_below, uppers_of, is_upper}
 use Rattle.pool_rules.specs.declared.next_load.Next.{Next}
 use Rattle.pool_rules.specs.declared.want.Want.{Want}
 use Rattle.pool_rules.specs.Events.{has_failed, has_full}
@@ -20,12 +20,11 @@ use Rattle.pool_rules.specs.Settled.{HasSettled, LastSettle, is_answered, IsSett
 use Rattle.pool_rules.specs.Sound.{IsSound}
 use Rattle.pool_rules.specs.State.{State, is_resident, is_loading, held_count, waits_for, state_of}
 use Rattle.pool_rules.specs.Victim.{victim_for}
-use Rattle.pool_rules.proofs.Allowed.{settled-resident}
-use Rattle.pool_rules.proofs.LargePool.{missing-listed}
+use Rattle.pool_rules.proofs.Arms.{settle-parts}
 use Rattle.pool_rules.proofs.LegalJournals.{state_of-push, refused_or-none, legal-split}
-use Rattle.pool_rules.proofs.Settled.{both, eqb-refl, is_wait, wait-page, IsWaiting, IsWaiting-settled, waiting-through}
+use Rattle.pool_rules.proofs.Settled.{is_wait, wait-page, IsWaiting, IsWaiting-settled, waiting-through}
 use Rattle.pool_rules.proofs.Soundness.{IsSound-state_of, upper-below}
-use Rattle.pool_rules.proofs.Tests.{and-both, same-eqb, or-cases, or-left, or-right, all-at_any, any-among, any-weaker, find-none, one-fails}
+use Rattle.pool_rules.proofs.Tests.{both, eqb-refl, and-both, same-eqb, or-cases, or-left, or-right, all-at_any, any-among, any-weaker, find-none, one-fails}
 
 -- ---- which pages a page needs
 
@@ -183,11 +182,10 @@ waiting-at layout frame by before settle legal alone =
     let e : Entry = record { by = by; what = Settle frame settle.pages settle.missing } in
     let s = state_of layout before in
     let parts = refused_or-none (is_allowed layout before e) (length before) (first_refused_after layout (before ++ e ∷ []) settle.after) legal in
-    let below = (and-both (ascends settle.missing) (all_below layout.pages settle.missing) (missing-listed layout s before by frame settle.pages settle.missing parts.0)).1 in
-    let resident = settled-resident layout s before by frame settle.pages settle.missing parts.0 in
-    let first : IsWaiting frame settle.pages settle.missing (state_of layout (before ++ e ∷ [])) [] = rw (state_of-push layout before e) (IsWaiting-settled s by frame settle.pages settle.missing resident) in
-    let last = waiting-through layout frame settle.pages settle.missing (before ++ e ∷ []) [] settle.after below alone first in
-    (below, rw append_assoc at last)
+    let allowed = settle-parts layout s before by frame settle.pages settle.missing parts.0 in
+    let first : IsWaiting frame settle.pages settle.missing (state_of layout (before ++ e ∷ [])) [] = rw (state_of-push layout before e) (IsWaiting-settled s by frame settle.pages settle.missing allowed.resident) in
+    let last = waiting-through layout frame settle.pages settle.missing (before ++ e ∷ []) [] settle.after allowed.missing_list.below alone first in
+    (allowed.missing_list.below, rw append_assoc at last)
 
 waiting-now : (layout : Layout) (journal : List Entry) (frame : ℕ) (settle : LastSettle) → IsLegal layout journal → last_settle frame journal ≡ Some settle → is_left_alone frame settle.after ≡ true → (all_below layout.pages settle.missing ≡ true) × IsWaiting frame settle.pages settle.missing (state_of layout journal) settle.after
 waiting-now layout journal frame settle legal last alone =

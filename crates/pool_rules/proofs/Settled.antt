@@ -20,14 +20,7 @@ use Rattle.pool_rules.proofs.Flags.{get_or-set_cases, place-within}
 use Rattle.pool_rules.proofs.LegalJournals.{state_of-push}
 use Rattle.pool_rules.proofs.Lengths.{HasItemAPage-state_of}
 use Rattle.pool_rules.proofs.Pinned.{mark_all}
-use Rattle.pool_rules.proofs.Tests.{and-both, same-eqb, or-cases, or-left, or-right, all-at_any, any-filter_kept, any-map, any-append_left, any-append_right}
-
-pub eqb-refl : (n : ℕ) → (n == n) ≡ true
-eqb-refl n = (Decides-eqb n n).1 refl
-
-pub both : (a b : Bool) → a ≡ true → b ≡ true → (a && b) ≡ true
-both true b h k = k
-both false b h k = cc
+use Rattle.pool_rules.proofs.Tests.{both, eqb-refl, and-both, same-eqb, or-cases, or-left, or-right, all-at_any, any-filter_kept, any-map, any-append_left, any-append_right}
 
 -- ---- each frame has a mark for each page
 

@@ -8,6 +8,7 @@ use Rattle.journal.specs.declared.entries.What.TheVariants.{Pin, Settle, Ask, Na
 use Rattle.journal.specs.declared.layouts.Layout.{Layout}
 use Rattle.pool_rules.proofs.Examples.{entry, digest, flat, load, queued, shared}
 use Rattle.pool_rules.specs.declared.next_load.Next.TheVariants as Next
+use Rattle.pool_rules.specs.Events.{has_failed}
 use Rattle.pool_rules.specs.Next.{next_after}
 use Rattle.pool_rules.specs.Rules.{first_refused}
 use Rattle.pool_rules.specs.Settled.{has_failed_need, is_left_alone, is_settled, last_settle, lists_uppers, needs, needs_within}
@@ -77,6 +78,9 @@ legal_after_fail = refl
 
 pub absent_after_fail : residency chain (waiting ++ failed_1) ≡ 0 ∷ []
 absent_after_fail = refl
+
+pub failed_alone : map (λ page. has_failed page failed_1) (1 ∷ 2 ∷ []) ≡ true ∷ false ∷ []
+failed_alone = refl
 
 pub failed_needs : map (has_failed_need chain (1 ∷ 2 ∷ 3 ∷ []) failed_1) (0 ∷ 1 ∷ 2 ∷ 3 ∷ []) ≡ false ∷ true ∷ true ∷ true ∷ []
 failed_needs = refl

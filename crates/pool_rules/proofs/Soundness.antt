@@ -10,13 +10,14 @@ use Rattle.journal.specs.declared.entries.What.TheVariants.{Pin, Settle, Ask, Na
 use Rattle.pool_rules.specs.Frame.{Frame}
 use Rattle.pool_rules.specs.declared.want.Want.{Want}
 use Rattle.journal.specs.declared.layouts.Layout.{Layout}
-use Rattle.journal.specs.Layout.{InBounds, page_numbers, uppers_of, is_upper, ascends}
+use Rattle.journal.specs.Layout.{InBounds, page_numbers, uppers_of, is_upper}
 use Rattle.pool_rules.specs.Numbers.{holds}
 use Rattle.pool_rules.specs.Next.{can_take, is_take, next_in}
-use Rattle.pool_rules.specs.Rules.{allows, owns, pins, loads, is_page_list, all_resident, any_resident, is_allowed, first_refused_after, IsLegal}
+use Rattle.pool_rules.specs.Rules.{allows, owns, pins, loads, all_resident, is_allowed, first_refused_after, IsLegal}
 use Rattle.pool_rules.specs.Sound.{IsSound}
 use Rattle.pool_rules.specs.State.{State, is_resident, is_loading, is_held, held_count, initial_state, state_after, state_of, replace_frame, marked, frame_after_install}
 use Rattle.pool_rules.specs.Victim.{is_pinned, is_stood_on, is_evictable}
+use Rattle.pool_rules.proofs.Arms.{settle-parts, narrow-pinned}
 use Rattle.pool_rules.proofs.Choices.{IsTaken, IsTaken-from_next}
 use Rattle.pool_rules.proofs.Flags.{get_or-set_cases, count_by-set_up, count_by-set_down, count_by-set_gone, place-within}
 use Rattle.pool_rules.proofs.Lengths.{HasItemAPage, HasItemAPage-state_of}
@@ -343,17 +344,12 @@ pub IsSound-after : (layout : Layout) (s : State) (journal : List Entry) (by : �
 IsSound-after layout s journal by (Pin frame) bounds lists sound h =
     repinned layout s _ s.wants s.last_used s.stopped (s.entries + 1) sound (pinned-now layout s by frame sound)
 IsSound-after layout s journal by (Settle frame pages missing) bounds lists sound h =
-    let a = and-both (owns s by frame) (is_page_list layout pages && (is_page_list layout missing && (all_resident s pages && not (any_resident s missing)))) h in
-    let b = and-both (is_page_list layout pages) (is_page_list layout missing && (all_resident s pages && not (any_resident s missing))) a.1 in
-    let c = and-both (is_page_list layout missing) (all_resident s pages && not (any_resident s missing)) b.1 in
-    let d = and-both (all_resident s pages) (not (any_resident s missing)) c.1 in
-    repinned layout s _ _ _ s.stopped (s.entries + 1) sound (settled-pins layout s (record { number = frame; owner = by; pins = marked (length s.resident) pages }) pages sound refl d.0)
+    let parts = settle-parts layout s journal by frame pages missing h in
+    repinned layout s _ _ _ s.stopped (s.entries + 1) sound (settled-pins layout s (record { number = frame; owner = by; pins = marked (length s.resident) pages }) pages sound refl parts.resident)
 IsSound-after layout s journal by (Ask frame pages) bounds lists sound h =
     repinned layout s s.frames _ s.last_used s.stopped (s.entries + 1) sound sound.pins_stay
 IsSound-after layout s journal by (Narrow frame pages) bounds lists sound h =
-    let a = and-both (owns s by frame) (ascends pages && list_all (pins s frame) pages) h in
-    let b = and-both (ascends pages) (list_all (pins s frame) pages) a.1 in
-    repinned layout s _ s.wants _ s.stopped (s.entries + 1) sound (narrowed-pins layout s (record { number = frame; owner = by; pins = marked (length s.resident) pages }) pages sound refl b.1)
+    repinned layout s _ s.wants _ s.stopped (s.entries + 1) sound (narrowed-pins layout s (record { number = frame; owner = by; pins = marked (length s.resident) pages }) pages sound refl (narrow-pinned layout s journal by frame pages h))
 IsSound-after layout s journal by (Unpin frame) bounds lists sound h =
     repinned layout s _ s.wants s.last_used s.stopped (s.entries + 1) sound (λ page k. sound.pins_stay page (any-filter (λ f. get_or f.pins page false) (λ f. not (f.number == frame)) s.frames k))
 IsSound-after layout s journal by (Take None page victim) bounds lists sound h =

@@ -1,11 +1,20 @@
 -- Tests of several parts, and of the elements of a list.
 use Rattle.std.proofs.Common.{◌≡◌, ℕ, ◌==◌, List, [], ◌∷◌, ◌++◌, map, Bool, true, false, not, cond, ◌&&◌, ◌||◌, ◌⊎◌, inl, inr, ⊎_elim, Some, None, find, filter, refl, sym}
-use Rattle.std.specs.List.{list_any, list_all}
+use Rattle.std.specs.List.{All, list_any, list_all}
+use Rattle.std.proofs.lemmas.List.Elements.{All-nil, All-cons}
 use Rattle.std.proofs.lemmas.Bool.Decides.{Decides-eqb}
 
 pub and-both : (a b : Bool) → (a && b) ≡ true → (a ≡ true) × (b ≡ true)
 and-both true b h = (refl, h)
 and-both false b h = cc
+
+pub both : (a b : Bool) → a ≡ true → b ≡ true → (a && b) ≡ true
+both true b h k = k
+both false b h k = cc
+
+pub neither : (a b : Bool) → (a || b) ≡ false → (a ≡ false) × (b ≡ false)
+neither true b h = cc
+neither false b h = (refl, h)
 
 pub not-false : (b : Bool) → not b ≡ true → b ≡ false
 not-false true h = cc
@@ -29,6 +38,23 @@ or-right false b h = h
 
 pub same-eqb : (a b : ℕ) → (a == b) ≡ true → a ≡ b
 same-eqb a b h = (Decides-eqb a b).0 h
+
+pub eqb-refl : (n : ℕ) → (n == n) ≡ true
+eqb-refl n = (Decides-eqb n n).1 refl
+
+-- each element passes, where all do
+pub all-pass : (test : ℕ → Bool) (xs : List ℕ) → list_all test xs ≡ true → All (λ x. test x ≡ true) xs
+all-pass test [] h = All-nil (λ x. test x ≡ true)
+all-pass test (x ∷ xs) h =
+    let parts = and-both (test x) (list_all test xs) h in
+    All-cons (λ y. test y ≡ true) x xs parts.0 (all-pass test xs parts.1)
+
+-- none passes, where not one does
+pub all-fail : (test : ℕ → Bool) (xs : List ℕ) → list_any test xs ≡ false → All (λ x. test x ≡ false) xs
+all-fail test [] h = All-nil (λ x. test x ≡ false)
+all-fail test (x ∷ xs) h =
+    let parts = neither (test x) (list_any test xs) h in
+    All-cons (λ y. test y ≡ false) x xs parts.0 (all-fail test xs parts.1)
 
 -- the first element that passes passes
 pub find-passes : {X : Type 0} (test : X → Bool) (xs : List X) (x : X) → find test xs ≡ Some x → test x ≡ true
@@ -110,7 +136,7 @@ one-fails test [] h = cc
 one-fails test (x ∷ xs) h =
     elim (test x) as (λ b. test x ≡ b → (b && list_all test xs) ≡ false → (y : ℕ) × (list_any (λ z. z == y) (x ∷ xs) ≡ true) × (test y ≡ false)) [
       | true ↦ λ e k. let rest = one-fails test xs k in (rest.0, or-right (x == rest.0) (list_any (λ z. z == rest.0) xs) rest.1, rest.2)
-      | false ↦ λ e k. (x, or-left (x == x) (list_any (λ z. z == x) xs) ((Decides-eqb x x).1 refl), e)
+      | false ↦ λ e k. (x, or-left (x == x) (list_any (λ z. z == x) xs) (eqb-refl x), e)
     ] refl h
 
 -- where none is found, none passes
