@@ -1,5 +1,5 @@
 -- Where the slots are at least the pages, a page that can be taken has a free slot.
-use Rattle.std.proofs.Common.{◌≡◌, ℕ, zero, suc, ◌+◌, ◌<◌, ◌≤◌, nat_lt, ◌==◌, List, [], ◌∷◌, ◌++◌, Bool, true, false, not, cond, ◌&&◌, Option, Some, None, is_some, find, get_or, length, refl, ap, arith, append-nil, append_assoc}
+use Rattle.std.proofs.Common.{◌≡◌, ℕ, zero, suc, ◌+◌, ◌<◌, ◌≤◌, nat_lt, ◌==◌, List, [], ◌∷◌, Bool, true, false, not, cond, ◌&&◌, Option, Some, None, is_some, find, get_or, length, refl, ap, arith}
 use Rattle.std.proofs.lemmas.Bool.Decides.{Decides-ltb}
 use Rattle.std.proofs.lemmas.List.Elements.{All-nil, All-head, All-tail, All-append, All-filter, All-map}
 use Rattle.std.proofs.lemmas.List.Sums.{sum_by-cons}
@@ -12,12 +12,12 @@ use Rattle.journal.specs.Layout.{InBounds, all_below, uppers_of}
 use Rattle.pool_rules.specs.declared.next_load.Next.TheVariants as Next
 use Rattle.pool_rules.specs.declared.want.Want.{Want}
 use Rattle.pool_rules.specs.Next.{is_want_for, can_take, is_takeable, first_takeable, first_loading, next_with, next_at, busy_with, next_without, next_of, next_after, is_full}
-use Rattle.pool_rules.specs.Rules.{allows, is_allowed, first_refused_after, IsLegal}
+use Rattle.pool_rules.specs.Rules.{allows, IsLegal}
 use Rattle.pool_rules.specs.Sound.{IsSound}
 use Rattle.pool_rules.specs.State.{State, is_resident, is_loading, is_held, held_count, is_live, wants_after, wants_of, wants_of_others, wants_without, state_of}
 use Rattle.pool_rules.specs.Victim.{victim_for}
 use Rattle.pool_rules.proofs.Arms.{settle-parts, ask-parts}
-use Rattle.pool_rules.proofs.LegalJournals.{state_of-push, refused_or-none}
+use Rattle.pool_rules.proofs.LegalJournals.{state_of-push, legal-keeps}
 use Rattle.pool_rules.proofs.Lengths.{HasItemAPage, HasItemAPage-state_of}
 use Rattle.pool_rules.proofs.Soundness.{IsSound-state_of, held-not}
 use Rattle.pool_rules.proofs.Tests.{all-pass, and-both, not-false, find-passes}
@@ -58,17 +58,12 @@ pages-after layout s journal by (Starve page) all h = without-pages layout page 
 pages-after layout s journal by (Full frame) all h = all
 pages-after layout s journal by Stop all h = all
 
-pages-through : (layout : Layout) (earlier later : List Entry) → ArePages layout (state_of layout earlier).wants → first_refused_after layout earlier later ≡ None → ArePages layout (state_of layout (earlier ++ later)).wants
-pages-through layout earlier [] all legal = rw append-nil all
-pages-through layout earlier (e ∷ later) all legal =
-    let parts = refused_or-none (is_allowed layout earlier e) (length earlier) (first_refused_after layout (earlier ++ e ∷ []) later) legal in
-    let next : ArePages layout (state_of layout (earlier ++ e ∷ [])).wants = rw state_of-push (pages-after layout (state_of layout earlier) earlier e.by e.what all parts.0) in
-    let rest = pages-through layout (earlier ++ e ∷ []) later next parts.1 in
-    rw append_assoc at rest
-
 -- after every legal journal each want is of a page of the layout
 pub wants-pages : (layout : Layout) (journal : List Entry) → IsLegal layout journal → All (λ want. nat_lt want.page layout.pages ≡ true) (state_of layout journal).wants
-wants-pages layout journal legal = pages-through layout [] journal (All-nil (λ want. IsPage layout want.page)) legal
+wants-pages layout journal legal =
+    legal-keeps layout (λ j. ArePages layout (state_of layout j).wants)
+    (λ j e allowed pages. rw (state_of-push layout j e) (pages-after layout (state_of layout j) j e.by e.what pages allowed))
+    (All-nil (λ want. IsPage layout want.page)) journal legal
 
 -- ---- how many pages are held
 

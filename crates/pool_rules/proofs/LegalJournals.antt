@@ -53,3 +53,14 @@ legal-split layout before (e ∷ first) later legal =
     let parts = refused_or-none (is_allowed layout before e) (length before) (first_refused_after layout (before ++ e ∷ []) (first ++ later)) legal in
     let rest = legal-split layout (before ++ e ∷ []) first later parts.1 in
     (none-refused_or (is_allowed layout before e) (length before) (first_refused_after layout (before ++ e ∷ []) first) parts.0 rest.0, rw append_assoc at rest.1)
+
+-- what each allowed entry keeps holds after every legal journal
+keeps-through : (layout : Layout) (P : List Entry → Type 0) → ((journal : List Entry) (e : Entry) → is_allowed layout journal e ≡ true → P journal → P (journal ++ e ∷ [])) → (earlier later : List Entry) → P earlier → first_refused_after layout earlier later ≡ None → P (earlier ++ later)
+keeps-through layout P keeps earlier [] held legal = rw append-nil held
+keeps-through layout P keeps earlier (e ∷ later) held legal =
+    let parts = refused_or-none (is_allowed layout earlier e) (length earlier) (first_refused_after layout (earlier ++ e ∷ []) later) legal in
+    let all = keeps-through layout P keeps (earlier ++ e ∷ []) later (keeps earlier e parts.0 held) parts.1 in
+    rw append_assoc at all
+
+pub legal-keeps : (layout : Layout) (P : List Entry → Type 0) → ((journal : List Entry) (e : Entry) → is_allowed layout journal e ≡ true → P journal → P (journal ++ e ∷ [])) → P [] → (journal : List Entry) → IsLegal layout journal → P journal
+legal-keeps layout P keeps start journal legal = keeps-through layout P keeps [] journal start legal

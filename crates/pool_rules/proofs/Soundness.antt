@@ -1,5 +1,5 @@
 -- Every legal journal leaves a sound state: the opening is sound, and each allowed entry keeps it so.
-use Rattle.std.proofs.Common.{◌≡◌, ◌≢◌, ℕ, zero, suc, ◌+◌, ◌<◌, ◌≤◌, nat_lt, ◌==◌, List, [], ◌∷◌, ◌++◌, Bool, true, false, not, cond, ◌&&◌, ◌||◌, ◌⊎◌, inl, inr, ⊎_elim, Option, Some, None, is_some, get_or, set, length, map, replicate, refl, sym, ap, ◌∙◌, arith, get_or-set_other, get_or-set_same, append-nil, append_assoc}
+use Rattle.std.proofs.Common.{◌≡◌, ◌≢◌, ℕ, zero, suc, ◌+◌, ◌<◌, ◌≤◌, nat_lt, ◌==◌, List, [], ◌∷◌, Bool, true, false, not, cond, ◌&&◌, ◌||◌, ◌⊎◌, inl, inr, ⊎_elim, Option, Some, None, is_some, get_or, set, length, map, replicate, refl, sym, ap, ◌∙◌, arith, get_or-set_other, get_or-set_same}
 use Rattle.std.specs.List.{count_by, list_any, list_all, range_with_len}
 use Rattle.std.proofs.lemmas.Bool.Decides.{Decides-ltb}
 use Rattle.std.proofs.lemmas.List.Folds.{list_any_at, sum_by-replicate}
@@ -13,7 +13,7 @@ use Rattle.journal.specs.declared.layouts.Layout.{Layout}
 use Rattle.journal.specs.Layout.{InBounds, page_numbers, uppers_of, is_upper}
 use Rattle.pool_rules.specs.Numbers.{holds}
 use Rattle.pool_rules.specs.Next.{can_take, is_take, next_in}
-use Rattle.pool_rules.specs.Rules.{allows, owns, pins, loads, all_resident, is_allowed, first_refused_after, IsLegal}
+use Rattle.pool_rules.specs.Rules.{allows, owns, pins, loads, all_resident, IsLegal}
 use Rattle.pool_rules.specs.Sound.{IsSound}
 use Rattle.pool_rules.specs.State.{State, is_resident, is_loading, is_held, held_count, initial_state, state_after, state_of, replace_frame, marked, frame_after_install}
 use Rattle.pool_rules.specs.Victim.{is_pinned, is_stood_on, is_evictable}
@@ -21,7 +21,7 @@ use Rattle.pool_rules.proofs.Arms.{settle-parts, narrow-pinned}
 use Rattle.pool_rules.proofs.Choices.{IsTaken, IsTaken-from_next}
 use Rattle.pool_rules.proofs.Flags.{get_or-set_cases, count_by-set_up, count_by-set_down, count_by-set_gone, place-within}
 use Rattle.pool_rules.proofs.Lengths.{HasItemAPage, HasItemAPage-state_of}
-use Rattle.pool_rules.proofs.LegalJournals.{state_of-push, refused_or-none}
+use Rattle.pool_rules.proofs.LegalJournals.{state_of-push, legal-keeps}
 use Rattle.pool_rules.proofs.Pinned.{pinned, pinned-put, pinned-installed, marked-listed}
 use Rattle.pool_rules.proofs.Tests.{and-both, not-false, all-at_any, any-weaker, any-filter}
 
@@ -371,16 +371,9 @@ IsSound-after layout s journal by (Full frame) bounds lists sound h =
 IsSound-after layout s journal by Stop bounds lists sound h =
     repinned layout s s.frames s.wants s.last_used true (s.entries + 1) sound sound.pins_stay
 
--- entries that are allowed one after another leave a sound state sound
-sound-through : (layout : Layout) (earlier later : List Entry) → InBounds layout → IsSound layout (state_of layout earlier) → first_refused_after layout earlier later ≡ None → IsSound layout (state_of layout (earlier ++ later))
-sound-through layout earlier [] bounds sound legal = rw append-nil sound
-sound-through layout earlier (e ∷ later) bounds sound legal =
-    let parts = refused_or-none (is_allowed layout earlier e) (length earlier) (first_refused_after layout (earlier ++ e ∷ []) later) legal in
-    let next : IsSound layout (state_of layout (earlier ++ e ∷ [])) = rw state_of-push (IsSound-after layout (state_of layout earlier) earlier e.by e.what bounds (HasItemAPage-state_of layout earlier) sound parts.0) in
-    let all = sound-through layout (earlier ++ e ∷ []) later bounds next parts.1 in
-    rw append_assoc at all
-
 -- after every legal journal the state is sound
 pub IsSound-state_of : (layout : Layout) (journal : List Entry) → InBounds layout → IsLegal layout journal → IsSound layout (state_of layout journal)
 IsSound-state_of layout journal bounds legal =
-    sound-through layout [] journal bounds (IsSound-opening layout bounds) legal
+    legal-keeps layout (λ j. IsSound layout (state_of layout j))
+    (λ j e allowed sound. rw (state_of-push layout j e) (IsSound-after layout (state_of layout j) j e.by e.what bounds (HasItemAPage-state_of layout j) sound allowed))
+    (IsSound-opening layout bounds) journal legal

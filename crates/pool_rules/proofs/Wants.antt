@@ -1,5 +1,5 @@
 -- Wants: none is of a resident page, and none of a live frame is removed but with the end of its page.
-use Rattle.std.proofs.Common.{◌≡◌, ℕ, zero, suc, ◌==◌, List, [], ◌∷◌, ◌++◌, Bool, true, false, not, cond, ◌&&◌, ◌⊎◌, inl, inr, ⊎_elim, Some, None, filter, get_or, set, length, refl, ap, ◌∙◌, arith, append-nil, append_assoc, get_or-set_other}
+use Rattle.std.proofs.Common.{◌≡◌, ℕ, zero, suc, ◌==◌, List, [], ◌∷◌, ◌++◌, Bool, true, false, not, cond, ◌&&◌, ◌⊎◌, inl, inr, ⊎_elim, Some, None, filter, get_or, set, refl, ap, ◌∙◌, arith, get_or-set_other}
 use Rattle.std.proofs.lemmas.Bool.Decides.{Decides-eqb}
 use Rattle.std.proofs.lemmas.List.Elements.{All-nil, All-append, All-filter, All-map, All-weaker, filter_passes, Contains-append_left}
 use Rattle.std.specs.List.{All, Contains}
@@ -10,11 +10,11 @@ use Rattle.journal.specs.declared.layouts.Layout.{Layout}
 use Rattle.pool_rules.specs.declared.want.Want.{Want}
 use Rattle.pool_rules.specs.Events.{page_ended, replaces_wants}
 use Rattle.pool_rules.specs.Numbers.{holds}
-use Rattle.pool_rules.specs.Rules.{allows, is_allowed, first_refused_after, IsLegal}
+use Rattle.pool_rules.specs.Rules.{allows, IsLegal}
 use Rattle.pool_rules.specs.State.{State, is_resident, is_live, initial_state, resident_after, wants_after, wants_of, wants_of_others, wants_without, state_of}
 use Rattle.pool_rules.proofs.Arms.{settle-parts, ask-parts}
 use Rattle.pool_rules.proofs.Flags.{get_or-set_cases}
-use Rattle.pool_rules.proofs.LegalJournals.{state_of-push, refused_or-none}
+use Rattle.pool_rules.proofs.LegalJournals.{state_of-push, legal-keeps}
 use Rattle.pool_rules.proofs.Tests.{all-fail, both, not-false, same-eqb}
 
 -- ---- no want of a resident page
@@ -67,20 +67,12 @@ absent-after layout s journal by (Starve page) absent h = without-absent s.resid
 absent-after layout s journal by (Full frame) absent h = absent
 absent-after layout s journal by Stop absent h = absent
 
-abbrev WantsAbsent : State → Type 0
-WantsAbsent s = AreAbsent s.resident s.wants
-
-absent-through : (layout : Layout) (earlier later : List Entry) → WantsAbsent (state_of layout earlier) → first_refused_after layout earlier later ≡ None → WantsAbsent (state_of layout (earlier ++ later))
-absent-through layout earlier [] absent legal = rw append-nil absent
-absent-through layout earlier (e ∷ later) absent legal =
-    let parts = refused_or-none (is_allowed layout earlier e) (length earlier) (first_refused_after layout (earlier ++ e ∷ []) later) legal in
-    let next : WantsAbsent (state_of layout (earlier ++ e ∷ [])) = rw state_of-push (absent-after layout (state_of layout earlier) earlier e.by e.what absent parts.0) in
-    let all = absent-through layout (earlier ++ e ∷ []) later next parts.1 in
-    rw append_assoc at all
-
 -- after every legal journal no resident page is wanted
 pub wants-absent : (layout : Layout) (journal : List Entry) → IsLegal layout journal → All (λ want. is_resident (state_of layout journal) want.page ≡ false) (state_of layout journal).wants
-wants-absent layout journal legal = absent-through layout [] journal (All-nil (λ want. IsAbsentIn (initial_state layout).resident want.page)) legal
+wants-absent layout journal legal =
+    legal-keeps layout (λ j. AreAbsent (state_of layout j).resident (state_of layout j).wants)
+    (λ j e allowed absent. rw (state_of-push layout j e) (absent-after layout (state_of layout j) j e.by e.what absent allowed))
+    (All-nil (λ want. IsAbsentIn (initial_state layout).resident want.page)) journal legal
 
 -- ---- what removes a want
 
