@@ -4,7 +4,7 @@ use Rattle.journal.specs.declared.entries.Spoilt.TheVariants.{Short}
 use Rattle.journal.specs.declared.entries.What.{What}
 use Rattle.journal.specs.declared.entries.What.TheVariants.{Pin, Settle, Ask, Narrow, Unpin, Take, Install, Fail, Spoil, Starve, Full, Stop}
 use Rattle.pool_rules.proofs.Examples.{digest, entry}
-use Rattle.pool_rules.specs.Events.{frame_of, page_ended, replaces_wants, is_stop, has_stop}
+use Rattle.pool_rules.specs.Events.{changes_frame, frame_of, has_failed, has_full, has_stop, is_full_of, is_stop, page_ended, page_failed, replaces_wants}
 use Rattle.pool_rules.specs.Numbers.{holds, is_among}
 
 -- One event of each kind: those of a frame are of frame 3, and those of a page of page 2.
@@ -49,3 +49,29 @@ stop_alone = refl
 
 pub stop_no_other : map is_stop (of_frame ++ ends) ≡ replicate 11 false
 stop_no_other = refl
+
+-- an Install ends a load with its page
+pub page_failed_each : map page_failed ends ≡ None ∷ Some 2 ∷ Some 2 ∷ Some 2 ∷ []
+page_failed_each = refl
+
+pub page_failed_others : map page_failed (Stop ∷ of_frame) ≡ replicate 8 None
+page_failed_others = refl
+
+pub failed_each : map (λ page. has_failed page (entry 2 (Install 4 digest) ∷ entry 2 (Starve 2) ∷ entry 0 (Fail 3 0 1) ∷ [])) (2 ∷ 3 ∷ 4 ∷ []) ≡ true ∷ true ∷ false ∷ []
+failed_each = refl
+
+-- a Take and a Full change nothing for their frame
+pub changes_own : map (λ what. changes_frame what 3) of_frame ≡ true ∷ true ∷ true ∷ true ∷ true ∷ false ∷ false ∷ []
+changes_own = refl
+
+pub changes_other : map (λ what. changes_frame what 2) (Stop ∷ of_frame ++ ends) ≡ replicate 12 false
+changes_other = refl
+
+pub full_own : map (λ what. is_full_of what 3) of_frame ≡ false ∷ false ∷ false ∷ false ∷ false ∷ false ∷ true ∷ []
+full_own = refl
+
+pub full_other : map (λ what. is_full_of what 2) (Stop ∷ of_frame ++ ends) ≡ replicate 12 false
+full_other = refl
+
+pub full_each : map (λ frame. has_full frame (entry 2 (Pin 3) ∷ entry 2 (Full 2) ∷ entry 2 (Pin 3) ∷ [])) (2 ∷ 3 ∷ []) ≡ true ∷ false ∷ []
+full_each = refl

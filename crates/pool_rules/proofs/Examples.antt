@@ -1,5 +1,5 @@
 -- Worked journals, computed: how the pool stands after them, what comes next and which page is evicted.
-use Rattle.std.proofs.Common.{◌≡◌, ℕ, Bool, true, false, List, [], ◌∷◌, ◌++◌, map, Some, None, Option, refl}
+use Rattle.std.proofs.Common.{◌≡◌, ℕ, zero, suc, inl, inr, arith, Bool, true, false, List, [], ◌∷◌, ◌++◌, map, Some, None, Option, refl}
 use Rattle.std.specs.Prelude.{replicate}
 use Rattle.geom_core.specs.declared.digests.Digest32.{Digest32}
 use Rattle.journal.specs.declared.entries.Entry.{Entry}
@@ -9,10 +9,10 @@ use Rattle.journal.specs.declared.entries.What.TheVariants.{Pin, Settle, Ask, Na
 use Rattle.journal.specs.declared.layouts.Layout.{Layout}
 use Rattle.pool_rules.specs.declared.next_load.Next.TheVariants as Next
 use Rattle.pool_rules.specs.declared.want.Want.{Want}
-use Rattle.pool_rules.specs.Next.{next_after}
+use Rattle.pool_rules.specs.Next.{can_take, next_after}
 use Rattle.pool_rules.specs.Rules.{first_refused}
-use Rattle.pool_rules.specs.State.{State, held_count, is_loading, is_resident, residency, state_of}
-use Rattle.pool_rules.specs.Victim.{victim_after, victim_for}
+use Rattle.pool_rules.specs.State.{State, initial_state, held_count, is_loading, is_resident, residency, state_of}
+use Rattle.pool_rules.specs.Victim.{HasNoVictim, IsLessRecent, victim_after, victim_for}
 
 abbrev pub entry : ℕ → What → Entry
 entry by what = record { by = by; what = what }
@@ -112,6 +112,15 @@ next_nothing = refl
 pub residency_shared : residency shared loaded_shared ≡ 0 ∷ 1 ∷ 2 ∷ []
 residency_shared = refl
 
+-- at first the root pages are resident, and no page is that the layout doesn't have
+pub resident_first : map (is_resident (state_of flat [])) (0 ∷ 1 ∷ 4 ∷ []) ≡ true ∷ false ∷ false ∷ []
+resident_first = refl
+
+-- a page can be taken that is neither resident nor being loaded, and whose uppers are resident: not page 2,
+-- while page 1 is being loaded
+pub take_apart : map (λ journal. map (can_take shared (state_of shared journal)) (0 ∷ 1 ∷ 2 ∷ [])) (asked_shared ∷ loading_shared ∷ loaded_shared ∷ []) ≡ (false ∷ true ∷ false ∷ []) ∷ (false ∷ false ∷ false ∷ []) ∷ (false ∷ false ∷ false ∷ []) ∷ []
+take_apart = refl
+
 -- the victim's slot is the loading page's
 pub taken_resident : (state_of crowded (take_5 (Some 4))).resident ≡ true ∷ true ∷ true ∷ true ∷ false ∷ false ∷ []
 taken_resident = refl
@@ -185,6 +194,10 @@ loading_maker = refl
 pub install_pins : map (λ f. f.pins) (ended_by (Install 1 digest)).frames ≡ (true ∷ true ∷ false ∷ false ∷ []) ∷ (true ∷ false ∷ false ∷ false ∷ []) ∷ []
 install_pins = refl
 
+-- nor is it added where the frame waits for another page
+pub install_pins_none : map (λ f. f.pins) (state_of flat (entry 0 (Pin 0) ∷ entry 0 (Settle 0 (0 ∷ []) (2 ∷ [])) ∷ entry 1 (Pin 1) ∷ entry 1 (Ask 1 (1 ∷ [])) ∷ entry 1 (Take (Some 1) 1 None) ∷ entry 1 (Install 1 digest) ∷ [])).frames ≡ replicate 2 (true ∷ false ∷ false ∷ false ∷ [])
+install_pins_none = refl
+
 -- Ends of the load: an Install, or one of these.
 abbrev pub other_ends : List What
 other_ends = Fail 1 0 1 ∷ Spoil 1 (Short 9) ∷ Starve 1 ∷ []
@@ -226,6 +239,10 @@ narrow_pins = refl
 pub unpin_pins : pins_after (asked_1 ++ entry 0 (Unpin 0) ∷ []) ≡ []
 unpin_pins = refl
 
+-- the Unpin of one frame leaves the other
+pub unpin_other : pins_after (asked_1 ++ entry 1 (Pin 1) ∷ entry 0 (Unpin 0) ∷ []) ≡ (true ∷ true ∷ false ∷ false ∷ []) ∷ []
+unpin_other = refl
+
 -- Which page is evicted: pages 1 and 2 came in this order, were used again by these entries, and nobody pins them.
 abbrev idle : List Entry → List Entry
 idle entries =
@@ -243,6 +260,10 @@ last_used_otherwise = refl
 pub victim_first : victim_after flat (idle []) 3 ≡ Some 1
 victim_first = refl
 
+-- a Narrow uses its pages
+pub last_used_narrowed : (state_of flat (idle (entry 0 (Narrow 0 (1 ∷ [])) ∷ []))).last_used ≡ 2 ∷ 7 ∷ 6 ∷ 0 ∷ []
+last_used_narrowed = refl
+
 -- a Narrow uses page 1 again, so page 2 is evicted
 pub victim_used_again : victim_after flat (idle (entry 0 (Narrow 0 (1 ∷ [])) ∷ [])) 3 ≡ Some 2
 victim_used_again = refl
@@ -254,6 +275,21 @@ victim_equal = refl
 -- what was never used is evicted first
 pub victim_unused : victim_for flat (record (state_of flat (idle [])) { last_used = 2 ∷ 4 ∷ 0 ∷ 0 ∷ [] }) 3 ≡ Some 2
 victim_unused = refl
+
+-- page 1 was used less recently than page 2, or, used by the same entry, the greater number is first
+pub recent_first : IsLessRecent (state_of flat (idle [])) 1 2
+recent_first = inl (omega arith)
+
+pub recent_equal : IsLessRecent (state_of flat (idle (entry 0 (Narrow 0 (1 ∷ 2 ∷ [])) ∷ []))) 2 1
+recent_equal = inr (refl, omega arith)
+
+-- at first no page may be evicted
+pub no_victim_first : HasNoVictim flat (initial_state flat) 3
+no_victim_first zero below h = cc
+no_victim_first (suc zero) below h = cc
+no_victim_first (suc (suc zero)) below h = cc
+no_victim_first (suc (suc (suc zero))) below h = cc
+no_victim_first (suc (suc (suc (suc q)))) below h = cc
 
 -- page 1, which nobody pins, goes, and it stays once a frame pins it
 pub victim_unpinned : victim_after flat asked_1 3 ≡ Some 1

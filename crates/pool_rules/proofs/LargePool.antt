@@ -1,25 +1,26 @@
 -- Where the slots are at least the pages, a page that can be taken has a free slot.
-use Rattle.std.proofs.Common.{◌≡◌, ℕ, zero, suc, ◌+◌, ◌<◌, ◌≤◌, nat_lt, ◌==◌, List, [], ◌∷◌, ◌++◌, Bool, true, false, not, cond, ◌&&◌, Option, Some, None, is_some, find, get_or, length, refl, ap, arith, append-nil, append_assoc}
+use Rattle.std.proofs.Common.{◌≡◌, ℕ, zero, suc, ◌+◌, ◌<◌, ◌≤◌, nat_lt, ◌==◌, List, [], ◌∷◌, Bool, true, false, not, cond, ◌&&◌, Option, Some, None, is_some, find, get_or, length, refl, ap, arith}
 use Rattle.std.proofs.lemmas.Bool.Decides.{Decides-ltb}
-use Rattle.std.proofs.lemmas.List.Elements.{All-nil, All-cons, All-head, All-tail, All-append, All-filter, All-map}
+use Rattle.std.proofs.lemmas.List.Elements.{All-nil, All-head, All-tail, All-append, All-filter, All-map}
 use Rattle.std.proofs.lemmas.List.Sums.{sum_by-cons}
 use Rattle.std.specs.List.{All, count_by, list_all}
 use Rattle.journal.specs.declared.entries.Entry.{Entry}
 use Rattle.journal.specs.declared.entries.What.{What}
 use Rattle.journal.specs.declared.entries.What.TheVariants.{Pin, Settle, Ask, Narrow, Unpin, Take, Install, Fail, Spoil, Starve, Full, Stop}
 use Rattle.journal.specs.declared.layouts.Layout.{Layout}
-use Rattle.journal.specs.Layout.{InBounds, ascends, all_below, uppers_of}
+use Rattle.journal.specs.Layout.{InBounds, all_below, uppers_of}
 use Rattle.pool_rules.specs.declared.next_load.Next.TheVariants as Next
 use Rattle.pool_rules.specs.declared.want.Want.{Want}
 use Rattle.pool_rules.specs.Next.{is_want_for, can_take, is_takeable, first_takeable, first_loading, next_with, next_at, busy_with, next_without, next_of, next_after, is_full}
-use Rattle.pool_rules.specs.Rules.{allows, owns, is_page_list, all_resident, any_resident, is_allowed, first_refused_after, IsLegal}
+use Rattle.pool_rules.specs.Rules.{allows, IsLegal}
 use Rattle.pool_rules.specs.Sound.{IsSound}
 use Rattle.pool_rules.specs.State.{State, is_resident, is_loading, is_held, held_count, is_live, wants_after, wants_of, wants_of_others, wants_without, state_of}
 use Rattle.pool_rules.specs.Victim.{victim_for}
-use Rattle.pool_rules.proofs.LegalJournals.{state_of-push, refused_or-none}
+use Rattle.pool_rules.proofs.Arms.{settle-parts, ask-parts}
+use Rattle.pool_rules.proofs.LegalJournals.{state_of-push, legal-keeps}
 use Rattle.pool_rules.proofs.Lengths.{HasItemAPage, HasItemAPage-state_of}
 use Rattle.pool_rules.proofs.Soundness.{IsSound-state_of, held-not}
-use Rattle.pool_rules.proofs.Tests.{and-both, not-false, find-passes}
+use Rattle.pool_rules.proofs.Tests.{all-pass, and-both, not-false, find-passes}
 
 -- ---- the wants are of pages of the layout
 
@@ -29,19 +30,9 @@ IsPage layout page = nat_lt page layout.pages ≡ true
 abbrev ArePages : Layout → List Want → Type 0
 ArePages layout wants = All (λ want. IsPage layout want.page) wants
 
-pub all-pass : (test : ℕ → Bool) (xs : List ℕ) → list_all test xs ≡ true → All (λ x. test x ≡ true) xs
-all-pass test [] h = All-nil (λ x. test x ≡ true)
-all-pass test (x ∷ xs) h =
-    let parts = and-both (test x) (list_all test xs) h in
-    All-cons (λ y. test y ≡ true) x xs parts.0 (all-pass test xs parts.1)
-
-listed-pages : (layout : Layout) (pages : List ℕ) → is_page_list layout pages ≡ true → All (IsPage layout) pages
-listed-pages layout pages h =
-    all-pass (λ n. nat_lt n layout.pages) pages (and-both (ascends pages) (all_below layout.pages pages) h).1
-
-wants_of-pages : (layout : Layout) (frame : ℕ) (settled : Bool) (pages : List ℕ) → is_page_list layout pages ≡ true → ArePages layout (wants_of frame settled pages)
+wants_of-pages : (layout : Layout) (frame : ℕ) (settled : Bool) (pages : List ℕ) → all_below layout.pages pages ≡ true → ArePages layout (wants_of frame settled pages)
 wants_of-pages layout frame settled pages h =
-    All-map (λ want. IsPage layout want.page) (λ page. record { frame = frame; page = page; settled = settled }) pages (listed-pages layout pages h)
+    All-map (λ want. IsPage layout want.page) (λ page. record { frame = frame; page = page; settled = settled }) pages (all-pass (λ n. nat_lt n layout.pages) pages h)
 
 others-pages : (layout : Layout) (s : State) (frame : ℕ) → ArePages layout s.wants → ArePages layout (wants_of_others s frame)
 others-pages layout s frame pages =
@@ -51,24 +42,12 @@ without-pages : (layout : Layout) (page : ℕ) (wants : List Want) → ArePages 
 without-pages layout page wants pages =
     All-filter (λ w. not (w.page == page)) (λ want. IsPage layout want.page) wants pages
 
--- what a Settle misses, and what an Ask asks for
-pub missing-listed : (layout : Layout) (s : State) (journal : List Entry) (by frame : ℕ) (pages missing : List ℕ) → allows layout s journal by (Settle frame pages missing) ≡ true → is_page_list layout missing ≡ true
-missing-listed layout s journal by frame pages missing h =
-    let a = and-both (owns s by frame) (is_page_list layout pages && (is_page_list layout missing && (all_resident s pages && not (any_resident s missing)))) h in
-    let b = and-both (is_page_list layout pages) (is_page_list layout missing && (all_resident s pages && not (any_resident s missing))) a.1 in
-    (and-both (is_page_list layout missing) (all_resident s pages && not (any_resident s missing)) b.1).0
-
-asked-listed : (layout : Layout) (s : State) (journal : List Entry) (by frame : ℕ) (pages : List ℕ) → allows layout s journal by (Ask frame pages) ≡ true → is_page_list layout pages ≡ true
-asked-listed layout s journal by frame pages h =
-    let a = and-both (owns s by frame) (is_page_list layout pages && not (any_resident s pages)) h in
-    (and-both (is_page_list layout pages) (not (any_resident s pages)) a.1).0
-
 pages-after : (layout : Layout) (s : State) (journal : List Entry) (by : ℕ) (what : What) → ArePages layout s.wants → allows layout s journal by what ≡ true → ArePages layout (wants_after s what)
 pages-after layout s journal by (Pin frame) all h = all
 pages-after layout s journal by (Settle frame pages missing) all h =
-    All-append (λ want. IsPage layout want.page) (wants_of_others s frame) (wants_of frame true missing) (others-pages layout s frame all) (wants_of-pages layout frame true missing (missing-listed layout s journal by frame pages missing h))
+    All-append (λ want. IsPage layout want.page) (wants_of_others s frame) (wants_of frame true missing) (others-pages layout s frame all) (wants_of-pages layout frame true missing (settle-parts layout s journal by frame pages missing h).missing_list.below)
 pages-after layout s journal by (Ask frame pages) all h =
-    All-append (λ want. IsPage layout want.page) (wants_of_others s frame) (wants_of frame false pages) (others-pages layout s frame all) (wants_of-pages layout frame false pages (asked-listed layout s journal by frame pages h))
+    All-append (λ want. IsPage layout want.page) (wants_of_others s frame) (wants_of frame false pages) (others-pages layout s frame all) (wants_of-pages layout frame false pages (ask-parts layout s journal by frame pages h).page_list.below)
 pages-after layout s journal by (Narrow frame pages) all h = all
 pages-after layout s journal by (Unpin frame) all h = all
 pages-after layout s journal by (Take frame page victim) all h = all
@@ -79,17 +58,12 @@ pages-after layout s journal by (Starve page) all h = without-pages layout page 
 pages-after layout s journal by (Full frame) all h = all
 pages-after layout s journal by Stop all h = all
 
-pages-through : (layout : Layout) (earlier later : List Entry) → ArePages layout (state_of layout earlier).wants → first_refused_after layout earlier later ≡ None → ArePages layout (state_of layout (earlier ++ later)).wants
-pages-through layout earlier [] all legal = rw append-nil all
-pages-through layout earlier (e ∷ later) all legal =
-    let parts = refused_or-none (is_allowed layout earlier e) (length earlier) (first_refused_after layout (earlier ++ e ∷ []) later) legal in
-    let next : ArePages layout (state_of layout (earlier ++ e ∷ [])).wants = rw state_of-push (pages-after layout (state_of layout earlier) earlier e.by e.what all parts.0) in
-    let rest = pages-through layout (earlier ++ e ∷ []) later next parts.1 in
-    rw append_assoc at rest
-
 -- after every legal journal each want is of a page of the layout
 pub wants-pages : (layout : Layout) (journal : List Entry) → IsLegal layout journal → All (λ want. nat_lt want.page layout.pages ≡ true) (state_of layout journal).wants
-wants-pages layout journal legal = pages-through layout [] journal (All-nil (λ want. IsPage layout want.page)) legal
+wants-pages layout journal legal =
+    legal-keeps layout (λ j. ArePages layout (state_of layout j).wants)
+    (λ j e allowed pages. rw (state_of-push layout j e) (pages-after layout (state_of layout j) j e.by e.what pages allowed))
+    (All-nil (λ want. IsPage layout want.page)) journal legal
 
 -- ---- how many pages are held
 
@@ -116,10 +90,10 @@ not-both true false both = omega arith
 not-both false true both = omega arith
 not-both false false both = omega arith
 
-neither : (r l : Bool) → r ≡ false → l ≡ false → one r + one l ≡ 0
-neither true l absent idle = cc
-neither false true absent idle = cc
-neither false false absent idle = refl
+none-held : (r l : Bool) → r ≡ false → l ≡ false → one r + one l ≡ 0
+none-held true l absent idle = cc
+none-held false true absent idle = cc
+none-held false false absent idle = refl
 
 -- no page is held twice
 apart-held : (resident : List Bool) (loading : List (Option ℕ)) → length resident ≡ length loading → AreApart resident loading → held resident loading ≤ length resident
@@ -134,7 +108,7 @@ free-held : (resident : List Bool) (loading : List (Option ℕ)) (free : ℕ) �
 free-held [] loading free same apart below absent idle = absurd (omega arith)
 free-held (r ∷ resident) [] free same apart below absent idle = absurd (omega arith)
 free-held (r ∷ resident) (l ∷ loading) zero same apart below absent idle =
-    omega (arith, held-cons r l resident loading, neither r (is_some l) absent idle, apart-held resident loading (omega arith) (later-apart r l resident loading apart))
+    omega (arith, held-cons r l resident loading, none-held r (is_some l) absent idle, apart-held resident loading (omega arith) (later-apart r l resident loading apart))
 free-held (r ∷ resident) (l ∷ loading) (suc free) same apart below absent idle =
     omega (arith, held-cons r l resident loading, not-both r (is_some l) (apart 0), free-held resident loading free (omega arith) (later-apart r l resident loading apart) (omega arith) absent idle)
 

@@ -1,4 +1,5 @@
 pub mod Allowed
+pub mod Arms
 pub mod Choices
 pub mod EventExamples
 pub mod Examples
@@ -6,9 +7,12 @@ pub mod Flags
 pub mod LargePool
 pub mod LegalJournals
 pub mod Lengths
+pub mod NothingLeft
 pub mod Pinned
 pub mod Ranges
 pub mod RuleExamples
+pub mod Settled
+pub mod SettledExamples
 pub mod Soundness
 pub mod Stalest
 pub mod Stops

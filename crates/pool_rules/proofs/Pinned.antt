@@ -37,7 +37,7 @@ pinned-installed wants installed page (f ∷ frames) h =
     (λ later. ⊎_elim (λ same. inl same) (λ old. inr (or-right (pinned_by page f) (pinned page frames) old)) (pinned-installed wants installed page frames later))
     (or-cases (pinned_by page (frame_after_install wants installed f)) (pinned page (map (frame_after_install wants installed) frames)) h)
 
-abbrev mark_all : List Bool → List ℕ → List Bool
+abbrev pub mark_all : List Bool → List ℕ → List Bool
 mark_all start pages = fold (λ marks page. set marks page true) start pages
 
 eqb-same : (p page : ℕ) → page ≡ p → (p == page) ≡ true

@@ -5,10 +5,11 @@ use Rattle.geom_core.specs.declared.digests.Digest32.{Digest32}
 use Rattle.journal.specs.declared.entries.Entry.{Entry}
 use Rattle.journal.specs.declared.entries.Spoilt.TheVariants.{Digest, Grammar, Short}
 use Rattle.journal.specs.declared.entries.What.{What}
-use Rattle.journal.specs.declared.entries.What.TheVariants.{Pin, Settle, Ask, Narrow, Unpin, Take, Install, Fail, Spoil, Full, Stop}
+use Rattle.journal.specs.declared.entries.What.TheVariants.{Pin, Settle, Ask, Narrow, Unpin, Take, Install, Fail, Spoil, Starve, Full, Stop}
 use Rattle.journal.specs.declared.layouts.Layout.{Layout}
 use Rattle.pool_rules.proofs.Examples.{entry, digest, shared, asked_shared, queued, flat, loading_1, other_ends, asked_1}
-use Rattle.pool_rules.specs.Rules.{first_refused, is_allowed, is_entry_of, is_wrong, last_after, rose}
+use Rattle.pool_rules.specs.Rules.{first_refused, is_allowed, is_entry_of, is_wrong, last_after, owns, rose}
+use Rattle.pool_rules.specs.State.{state_of}
 
 -- Two pages, of which neither stands on the other.
 abbrev two : Layout
@@ -28,6 +29,14 @@ other_maker = refl
 
 pub own_maker : first_refused two (entry 0 (Pin 0) ∷ entry 0 (Unpin 0) ∷ []) ≡ None
 own_maker = refl
+
+-- of two makers each owns its own frame
+pub owns_own : map (λ by. map (owns (state_of shared queued) by) (0 ∷ 1 ∷ [])) (0 ∷ 1 ∷ 2 ∷ []) ≡ (true ∷ false ∷ []) ∷ (false ∷ true ∷ []) ∷ (false ∷ false ∷ []) ∷ []
+owns_own = refl
+
+-- the first entry that is refused
+pub refused_first : first_refused two (entry 0 (Pin 0) ∷ entry 1 (Unpin 0) ∷ entry 0 (Starve 1) ∷ entry 0 (Unpin 0) ∷ []) ≡ Some 1
+refused_first = refl
 
 -- the second stop
 pub stop_again : first_refused two (entry 0 Stop ∷ entry 0 Stop ∷ []) ≡ Some 1
@@ -101,6 +110,9 @@ ask_missing = refl
 pub ask_there : may (Ask 0 (1 ∷ 2 ∷ [])) ≡ false
 ask_there = refl
 
+pub ask_falling : map may (Ask 0 (3 ∷ 2 ∷ []) ∷ Ask 0 (2 ∷ 2 ∷ []) ∷ []) ≡ false ∷ false ∷ []
+ask_falling = refl
+
 pub ask_beyond : may (Ask 0 (3 ∷ 4 ∷ [])) ≡ false
 ask_beyond = refl
 
@@ -150,6 +162,10 @@ take_other = refl
 pub take_for_all : take_shared 1 (Take None 1 None) ≡ None
 take_for_all = refl
 
+-- of the page that comes next
+pub take_later : map (λ frame. take_shared 0 (Take frame 2 None)) (None ∷ Some 0 ∷ []) ≡ Some 2 ∷ Some 2 ∷ []
+take_later = refl
+
 -- page 1 is next for all, but not for frame 0, which wants page 2
 pub take_unwanted : map (λ frame. is_allowed shared queued (entry 0 (Take frame 1 None))) (None ∷ Some 0 ∷ []) ≡ true ∷ false ∷ []
 take_unwanted = refl
@@ -166,6 +182,10 @@ full_own = refl
 
 pub full_other : full_one (entry 1 (Full 0) ∷ []) ≡ Some 2
 full_other = refl
+
+-- nor is a frame that wants nothing
+pub full_unwanted : full_one (entry 1 (Pin 1) ∷ entry 1 (Full 1) ∷ []) ≡ Some 3
+full_unwanted = refl
 
 -- after a Stop nothing is taken, and nobody is told of a full pool
 pub take_stopped : map (λ frame. first_refused shared (asked_shared ++ entry 0 Stop ∷ entry 0 (Take frame 1 None) ∷ [])) (None ∷ Some 0 ∷ []) ≡ Some 3 ∷ Some 3 ∷ []

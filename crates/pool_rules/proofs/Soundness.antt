@@ -1,5 +1,5 @@
 -- Every legal journal leaves a sound state: the opening is sound, and each allowed entry keeps it so.
-use Rattle.std.proofs.Common.{◌≡◌, ◌≢◌, ℕ, zero, suc, ◌+◌, ◌<◌, ◌≤◌, nat_lt, ◌==◌, List, [], ◌∷◌, ◌++◌, Bool, true, false, not, cond, ◌&&◌, ◌||◌, ◌⊎◌, inl, inr, ⊎_elim, Option, Some, None, is_some, get_or, set, length, map, replicate, refl, sym, ap, ◌∙◌, arith, get_or-set_other, get_or-set_same, append-nil, append_assoc}
+use Rattle.std.proofs.Common.{◌≡◌, ◌≢◌, ℕ, zero, suc, ◌+◌, ◌<◌, ◌≤◌, nat_lt, ◌==◌, List, [], ◌∷◌, Bool, true, false, not, cond, ◌&&◌, ◌||◌, ◌⊎◌, inl, inr, ⊎_elim, Option, Some, None, is_some, get_or, set, length, map, replicate, refl, sym, ap, ◌∙◌, arith, get_or-set_other, get_or-set_same}
 use Rattle.std.specs.List.{count_by, list_any, list_all, range_with_len}
 use Rattle.std.proofs.lemmas.Bool.Decides.{Decides-ltb}
 use Rattle.std.proofs.lemmas.List.Folds.{list_any_at, sum_by-replicate}
@@ -10,17 +10,18 @@ use Rattle.journal.specs.declared.entries.What.TheVariants.{Pin, Settle, Ask, Na
 use Rattle.pool_rules.specs.Frame.{Frame}
 use Rattle.pool_rules.specs.declared.want.Want.{Want}
 use Rattle.journal.specs.declared.layouts.Layout.{Layout}
-use Rattle.journal.specs.Layout.{InBounds, page_numbers, uppers_of, is_upper, ascends}
+use Rattle.journal.specs.Layout.{InBounds, page_numbers, uppers_of, is_upper}
 use Rattle.pool_rules.specs.Numbers.{holds}
 use Rattle.pool_rules.specs.Next.{can_take, is_take, next_in}
-use Rattle.pool_rules.specs.Rules.{allows, owns, pins, loads, is_page_list, all_resident, any_resident, is_allowed, first_refused_after, IsLegal}
+use Rattle.pool_rules.specs.Rules.{allows, owns, pins, loads, all_resident, IsLegal}
 use Rattle.pool_rules.specs.Sound.{IsSound}
 use Rattle.pool_rules.specs.State.{State, is_resident, is_loading, is_held, held_count, initial_state, state_after, state_of, replace_frame, marked, frame_after_install}
 use Rattle.pool_rules.specs.Victim.{is_pinned, is_stood_on, is_evictable}
+use Rattle.pool_rules.proofs.Arms.{settle-parts, narrow-pinned}
 use Rattle.pool_rules.proofs.Choices.{IsTaken, IsTaken-from_next}
 use Rattle.pool_rules.proofs.Flags.{get_or-set_cases, count_by-set_up, count_by-set_down, count_by-set_gone, place-within}
 use Rattle.pool_rules.proofs.Lengths.{HasItemAPage, HasItemAPage-state_of}
-use Rattle.pool_rules.proofs.LegalJournals.{state_of-push, refused_or-none}
+use Rattle.pool_rules.proofs.LegalJournals.{state_of-push, legal-keeps}
 use Rattle.pool_rules.proofs.Pinned.{pinned, pinned-put, pinned-installed, marked-listed}
 use Rattle.pool_rules.proofs.Tests.{and-both, not-false, all-at_any, any-weaker, any-filter}
 
@@ -105,7 +106,7 @@ roots-counted roots (suc n) =
     few-more roots n (rooted roots n) (rooted roots (suc n)) (nat_lt n roots) refl (rooted-more roots n) (roots-counted roots n)
 
 -- an upper lies below its page
-upper-below : (layout : Layout) (page upper : ℕ) → InBounds layout → page < layout.pages → is_upper layout upper page ≡ true → upper < page
+pub upper-below : (layout : Layout) (page upper : ℕ) → InBounds layout → page < layout.pages → is_upper layout upper page ≡ true → upper < page
 upper-below layout page upper bounds below h =
     (Decides-ltb upper page).0 (all-at_any (λ u. nat_lt u page) (uppers_of layout page) upper (bounds.uppers page (omega (arith, below, bounds.list_a_page))).1 h)
 
@@ -343,17 +344,12 @@ pub IsSound-after : (layout : Layout) (s : State) (journal : List Entry) (by : �
 IsSound-after layout s journal by (Pin frame) bounds lists sound h =
     repinned layout s _ s.wants s.last_used s.stopped (s.entries + 1) sound (pinned-now layout s by frame sound)
 IsSound-after layout s journal by (Settle frame pages missing) bounds lists sound h =
-    let a = and-both (owns s by frame) (is_page_list layout pages && (is_page_list layout missing && (all_resident s pages && not (any_resident s missing)))) h in
-    let b = and-both (is_page_list layout pages) (is_page_list layout missing && (all_resident s pages && not (any_resident s missing))) a.1 in
-    let c = and-both (is_page_list layout missing) (all_resident s pages && not (any_resident s missing)) b.1 in
-    let d = and-both (all_resident s pages) (not (any_resident s missing)) c.1 in
-    repinned layout s _ _ _ s.stopped (s.entries + 1) sound (settled-pins layout s (record { number = frame; owner = by; pins = marked (length s.resident) pages }) pages sound refl d.0)
+    let parts = settle-parts layout s journal by frame pages missing h in
+    repinned layout s _ _ _ s.stopped (s.entries + 1) sound (settled-pins layout s (record { number = frame; owner = by; pins = marked (length s.resident) pages }) pages sound refl parts.resident)
 IsSound-after layout s journal by (Ask frame pages) bounds lists sound h =
     repinned layout s s.frames _ s.last_used s.stopped (s.entries + 1) sound sound.pins_stay
 IsSound-after layout s journal by (Narrow frame pages) bounds lists sound h =
-    let a = and-both (owns s by frame) (ascends pages && list_all (pins s frame) pages) h in
-    let b = and-both (ascends pages) (list_all (pins s frame) pages) a.1 in
-    repinned layout s _ s.wants _ s.stopped (s.entries + 1) sound (narrowed-pins layout s (record { number = frame; owner = by; pins = marked (length s.resident) pages }) pages sound refl b.1)
+    repinned layout s _ s.wants _ s.stopped (s.entries + 1) sound (narrowed-pins layout s (record { number = frame; owner = by; pins = marked (length s.resident) pages }) pages sound refl (narrow-pinned layout s journal by frame pages h))
 IsSound-after layout s journal by (Unpin frame) bounds lists sound h =
     repinned layout s _ s.wants s.last_used s.stopped (s.entries + 1) sound (λ page k. sound.pins_stay page (any-filter (λ f. get_or f.pins page false) (λ f. not (f.number == frame)) s.frames k))
 IsSound-after layout s journal by (Take None page victim) bounds lists sound h =
@@ -375,16 +371,9 @@ IsSound-after layout s journal by (Full frame) bounds lists sound h =
 IsSound-after layout s journal by Stop bounds lists sound h =
     repinned layout s s.frames s.wants s.last_used true (s.entries + 1) sound sound.pins_stay
 
--- entries that are allowed one after another leave a sound state sound
-sound-through : (layout : Layout) (earlier later : List Entry) → InBounds layout → IsSound layout (state_of layout earlier) → first_refused_after layout earlier later ≡ None → IsSound layout (state_of layout (earlier ++ later))
-sound-through layout earlier [] bounds sound legal = rw append-nil sound
-sound-through layout earlier (e ∷ later) bounds sound legal =
-    let parts = refused_or-none (is_allowed layout earlier e) (length earlier) (first_refused_after layout (earlier ++ e ∷ []) later) legal in
-    let next : IsSound layout (state_of layout (earlier ++ e ∷ [])) = rw state_of-push (IsSound-after layout (state_of layout earlier) earlier e.by e.what bounds (HasItemAPage-state_of layout earlier) sound parts.0) in
-    let all = sound-through layout (earlier ++ e ∷ []) later bounds next parts.1 in
-    rw append_assoc at all
-
 -- after every legal journal the state is sound
 pub IsSound-state_of : (layout : Layout) (journal : List Entry) → InBounds layout → IsLegal layout journal → IsSound layout (state_of layout journal)
 IsSound-state_of layout journal bounds legal =
-    sound-through layout [] journal bounds (IsSound-opening layout bounds) legal
+    legal-keeps layout (λ j. IsSound layout (state_of layout j))
+    (λ j e allowed sound. rw (state_of-push layout j e) (IsSound-after layout (state_of layout j) j e.by e.what bounds (HasItemAPage-state_of layout j) sound allowed))
+    (IsSound-opening layout bounds) journal legal

@@ -1,8 +1,8 @@
 -- Wants: none is of a resident page, and none of a live frame is removed but with the end of its page.
-use Rattle.std.proofs.Common.{◌≡◌, ℕ, zero, suc, ◌==◌, List, [], ◌∷◌, ◌++◌, Bool, true, false, not, cond, ◌&&◌, ◌||◌, ◌⊎◌, inl, inr, ⊎_elim, Some, None, filter, get_or, set, length, refl, ap, ◌∙◌, arith, append-nil, append_assoc, get_or-set_other}
+use Rattle.std.proofs.Common.{◌≡◌, ℕ, zero, suc, ◌==◌, List, [], ◌∷◌, ◌++◌, Bool, true, false, not, cond, ◌&&◌, ◌⊎◌, inl, inr, ⊎_elim, Some, None, filter, get_or, set, refl, ap, ◌∙◌, arith, get_or-set_other}
 use Rattle.std.proofs.lemmas.Bool.Decides.{Decides-eqb}
-use Rattle.std.proofs.lemmas.List.Elements.{All-nil, All-cons, All-append, All-filter, All-map, All-weaker, filter_passes, Contains-append_left}
-use Rattle.std.specs.List.{All, Contains, list_any}
+use Rattle.std.proofs.lemmas.List.Elements.{All-nil, All-append, All-filter, All-map, All-weaker, filter_passes, Contains-append_left}
+use Rattle.std.specs.List.{All, Contains}
 use Rattle.journal.specs.declared.entries.Entry.{Entry}
 use Rattle.journal.specs.declared.entries.What.{What}
 use Rattle.journal.specs.declared.entries.What.TheVariants.{Pin, Settle, Ask, Narrow, Unpin, Take, Install, Fail, Spoil, Starve, Full, Stop}
@@ -10,11 +10,12 @@ use Rattle.journal.specs.declared.layouts.Layout.{Layout}
 use Rattle.pool_rules.specs.declared.want.Want.{Want}
 use Rattle.pool_rules.specs.Events.{page_ended, replaces_wants}
 use Rattle.pool_rules.specs.Numbers.{holds}
-use Rattle.pool_rules.specs.Rules.{allows, owns, is_page_list, all_resident, any_resident, is_allowed, first_refused_after, IsLegal}
+use Rattle.pool_rules.specs.Rules.{allows, IsLegal}
 use Rattle.pool_rules.specs.State.{State, is_resident, is_live, initial_state, resident_after, wants_after, wants_of, wants_of_others, wants_without, state_of}
+use Rattle.pool_rules.proofs.Arms.{settle-parts, ask-parts}
 use Rattle.pool_rules.proofs.Flags.{get_or-set_cases}
-use Rattle.pool_rules.proofs.LegalJournals.{state_of-push, refused_or-none}
-use Rattle.pool_rules.proofs.Tests.{and-both, not-false, same-eqb}
+use Rattle.pool_rules.proofs.LegalJournals.{state_of-push, legal-keeps}
+use Rattle.pool_rules.proofs.Tests.{all-fail, both, not-false, same-eqb}
 
 -- ---- no want of a resident page
 
@@ -23,17 +24,6 @@ IsAbsentIn resident page = get_or resident page false ≡ false
 
 abbrev AreAbsent : List Bool → List Want → Type 0
 AreAbsent resident wants = All (λ want. IsAbsentIn resident want.page) wants
-
--- none of these passes, where not one of them does
-all-fail : (test : ℕ → Bool) (xs : List ℕ) → list_any test xs ≡ false → All (λ x. test x ≡ false) xs
-all-fail test [] h = All-nil (λ x. test x ≡ false)
-all-fail test (x ∷ xs) h =
-    let parts = neither (test x) (list_any test xs) h in
-    All-cons (λ y. test y ≡ false) x xs parts.0 (all-fail test xs parts.1)
-  where
-    neither : (a b : Bool) → (a || b) ≡ false → (a ≡ false) × (b ≡ false)
-    neither true b k = cc
-    neither false b k = (refl, k)
 
 wants_of-absent : (resident : List Bool) (frame : ℕ) (settled : Bool) (pages : List ℕ) → All (IsAbsentIn resident) pages → AreAbsent resident (wants_of frame settled pages)
 wants_of-absent resident frame settled pages absent =
@@ -49,20 +39,6 @@ installed-absent : (resident : List Bool) (installed page : ℕ) → not (page =
 installed-absent resident installed page other h =
     get_or-set_other resident installed page true false (λ same. let yes = (Decides-eqb page installed).1 same in let no = not-false (page == installed) other in cc) ∙ h
 
-settled-absent : (layout : Layout) (s : State) (by frame : ℕ) (pages missing : List ℕ) → allows layout s [] by (Settle frame pages missing) ≡ true → All (IsAbsentIn s.resident) missing
-settled-absent layout s by frame pages missing h =
-    let a = and-both (owns s by frame) (is_page_list layout pages && (is_page_list layout missing && (all_resident s pages && not (any_resident s missing)))) h in
-    let b = and-both (is_page_list layout pages) (is_page_list layout missing && (all_resident s pages && not (any_resident s missing))) a.1 in
-    let c = and-both (is_page_list layout missing) (all_resident s pages && not (any_resident s missing)) b.1 in
-    let d = and-both (all_resident s pages) (not (any_resident s missing)) c.1 in
-    all-fail (is_resident s) missing (not-false (any_resident s missing) d.1)
-
-asked-absent : (layout : Layout) (s : State) (by frame : ℕ) (pages : List ℕ) → allows layout s [] by (Ask frame pages) ≡ true → All (IsAbsentIn s.resident) pages
-asked-absent layout s by frame pages h =
-    let a = and-both (owns s by frame) (is_page_list layout pages && not (any_resident s pages)) h in
-    let b = and-both (is_page_list layout pages) (not (any_resident s pages)) a.1 in
-    all-fail (is_resident s) pages (not-false (any_resident s pages) b.1)
-
 others-absent : (s : State) (frame : ℕ) → AreAbsent s.resident s.wants → AreAbsent s.resident (wants_of_others s frame)
 others-absent s frame absent =
     All-filter (λ w. not (w.frame == frame) && is_live s.frames w.frame) (λ want. IsAbsentIn s.resident want.page) s.wants absent
@@ -75,9 +51,9 @@ without-absent resident page wants absent =
 absent-after : (layout : Layout) (s : State) (journal : List Entry) (by : ℕ) (what : What) → AreAbsent s.resident s.wants → allows layout s journal by what ≡ true → AreAbsent (resident_after what s.resident) (wants_after s what)
 absent-after layout s journal by (Pin frame) absent h = absent
 absent-after layout s journal by (Settle frame pages missing) absent h =
-    All-append (λ want. IsAbsentIn s.resident want.page) (wants_of_others s frame) (wants_of frame true missing) (others-absent s frame absent) (wants_of-absent s.resident frame true missing (settled-absent layout s by frame pages missing h))
+    All-append (λ want. IsAbsentIn s.resident want.page) (wants_of_others s frame) (wants_of frame true missing) (others-absent s frame absent) (wants_of-absent s.resident frame true missing (all-fail (is_resident s) missing (settle-parts layout s journal by frame pages missing h).absent))
 absent-after layout s journal by (Ask frame pages) absent h =
-    All-append (λ want. IsAbsentIn s.resident want.page) (wants_of_others s frame) (wants_of frame false pages) (others-absent s frame absent) (wants_of-absent s.resident frame false pages (asked-absent layout s by frame pages h))
+    All-append (λ want. IsAbsentIn s.resident want.page) (wants_of_others s frame) (wants_of frame false pages) (others-absent s frame absent) (wants_of-absent s.resident frame false pages (all-fail (is_resident s) pages (ask-parts layout s journal by frame pages h).absent))
 absent-after layout s journal by (Narrow frame pages) absent h = absent
 absent-after layout s journal by (Unpin frame) absent h = absent
 absent-after layout s journal by (Take frame page None) absent h = absent
@@ -91,20 +67,12 @@ absent-after layout s journal by (Starve page) absent h = without-absent s.resid
 absent-after layout s journal by (Full frame) absent h = absent
 absent-after layout s journal by Stop absent h = absent
 
-abbrev WantsAbsent : State → Type 0
-WantsAbsent s = AreAbsent s.resident s.wants
-
-absent-through : (layout : Layout) (earlier later : List Entry) → WantsAbsent (state_of layout earlier) → first_refused_after layout earlier later ≡ None → WantsAbsent (state_of layout (earlier ++ later))
-absent-through layout earlier [] absent legal = rw append-nil absent
-absent-through layout earlier (e ∷ later) absent legal =
-    let parts = refused_or-none (is_allowed layout earlier e) (length earlier) (first_refused_after layout (earlier ++ e ∷ []) later) legal in
-    let next : WantsAbsent (state_of layout (earlier ++ e ∷ [])) = rw state_of-push (absent-after layout (state_of layout earlier) earlier e.by e.what absent parts.0) in
-    let all = absent-through layout (earlier ++ e ∷ []) later next parts.1 in
-    rw append_assoc at all
-
 -- after every legal journal no resident page is wanted
 pub wants-absent : (layout : Layout) (journal : List Entry) → IsLegal layout journal → All (λ want. is_resident (state_of layout journal) want.page ≡ false) (state_of layout journal).wants
-wants-absent layout journal legal = absent-through layout [] journal (All-nil (λ want. IsAbsentIn (initial_state layout).resident want.page)) legal
+wants-absent layout journal legal =
+    legal-keeps layout (λ j. AreAbsent (state_of layout j).resident (state_of layout j).wants)
+    (λ j e allowed absent. rw (state_of-push layout j e) (absent-after layout (state_of layout j) j e.by e.what absent allowed))
+    (All-nil (λ want. IsAbsentIn (initial_state layout).resident want.page)) journal legal
 
 -- ---- what removes a want
 
@@ -127,10 +95,6 @@ Contains-filter {X} test (y ∷ xs) x passes has =
       | false ↦ λ e. ⊎_elim (λ here. let no : test x ≡ false = rw here at e in cc) (λ later. Contains-filter test xs x passes later) (Contains-cases x y xs has)
     ] refl
 
-both-pass : (a b : Bool) → a ≡ false → b ≡ true → (not a && b) ≡ true
-both-pass true b h k = cc
-both-pass false b h k = k
-
 eqb-swap : (a b : ℕ) → (a == b) ≡ false → (b == a) ≡ false
 eqb-swap a b h =
     elim (b == a) as (λ t. (b == a) ≡ t → t ≡ false) [ true ↦ λ e. let same = same-eqb b a e in let yes = (Decides-eqb a b).1 cc in cc | false ↦ λ e. refl ] refl
@@ -138,7 +102,7 @@ eqb-swap a b h =
 -- a want of another live frame stays at a Settle or an Ask
 others-kept : (s : State) (frame : ℕ) (more : List Want) (want : Want) → is_live s.frames want.frame ≡ true → (frame == want.frame) ≡ false → Contains s.wants want → Contains (wants_of_others s frame ++ more) want
 others-kept s frame more want live other has =
-    Contains-append_left (wants_of_others s frame) more want (Contains-filter (λ w. not (w.frame == frame) && is_live s.frames w.frame) s.wants want (both-pass (want.frame == frame) (is_live s.frames want.frame) (eqb-swap frame want.frame other) live) has)
+    Contains-append_left (wants_of_others s frame) more want (Contains-filter (λ w. not (w.frame == frame) && is_live s.frames w.frame) s.wants want (both (not (want.frame == frame)) (is_live s.frames want.frame) (ap not (eqb-swap frame want.frame other)) live) has)
 
 -- a want of another page stays at the end of a load
 without-kept : (page : ℕ) (wants : List Want) (want : Want) → (page == want.page) ≡ false → Contains wants want → Contains (wants_without page wants) want

@@ -3,6 +3,7 @@ pub mod Frame
 pub mod Next
 pub mod Numbers
 pub mod Rules
+pub mod Settled
 pub mod Sound
 pub mod State
 pub mod Victim
