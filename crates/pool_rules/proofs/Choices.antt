@@ -59,7 +59,7 @@ into_free layout s p page victim free h =
     let parts = and-both (p == page) (option_eq nat_eq None victim) h in
     (same-eqb p page parts.0, inl (same-none victim parts.1, (Decides-ltb (held_count s) layout.slots).0 free))
 
-take-at : (layout : Layout) (s : State) (p page : ℕ) (victim : Option ℕ) → is_take (next_at layout s p) page victim ≡ true → (p ≡ page) × Room layout s p victim
+pub take-at : (layout : Layout) (s : State) (p page : ℕ) (victim : Option ℕ) → is_take (next_at layout s p) page victim ≡ true → (p ≡ page) × Room layout s p victim
 take-at layout s p page victim h =
     elim (nat_lt (held_count s) layout.slots) as (λ b. nat_lt (held_count s) layout.slots ≡ b → is_take (cond b (Take p None) (next_with p (victim_for layout s p))) page victim ≡ true → (p ≡ page) × Room layout s p victim)
     [ true ↦ λ free k. into_free layout s p page victim free k | false ↦ λ full k. into_victim layout s p page victim (victim_for layout s p) refl k ] refl h
@@ -68,7 +68,7 @@ busy-no_take : (want : Option Want) (page : ℕ) (victim : Option ℕ) → is_ta
 busy-no_take None page victim h = cc
 busy-no_take (Some want) page victim h = cc
 
-without-no_take : (s : State) (frame : Option ℕ) (page : ℕ) (victim : Option ℕ) → is_take (next_without s frame) page victim ≡ true → ⊥
+pub without-no_take : (s : State) (frame : Option ℕ) (page : ℕ) (victim : Option ℕ) → is_take (next_without s frame) page victim ≡ true → ⊥
 without-no_take s None page victim h = cc
 without-no_take s (Some frame) page victim h = busy-no_take (first_loading s frame) page victim h
 

@@ -1,6 +1,7 @@
 pub mod Apart
 pub mod AscendingNumbers
 pub mod Changes
+pub mod EntryPages
 pub mod Examples
 pub mod Links
 pub mod Openings
@@ -11,3 +12,4 @@ pub mod PoolPages
 pub mod Searches
 pub mod UseOrder
 pub mod Victims
+pub mod WantedPages
