@@ -1,5 +1,5 @@
 -- The records of the pages agree with the state after each kind of entry.
-use Rattle.std.proofs.Common.{◌≡◌, ◌≢◌, ℕ, ◌+◌, ◌<◌, ◌≤◌, nat_lt, List, [], ◌∷◌, Bool, true, false, not, ◌||◌, ◌&&◌, ⊎_elim, Option, Some, None, is_some, get_or, set, length, refl, sym, ap, ◌∙◌, subst, arith, length-set}
+use Rattle.std.proofs.Common.{◌≡◌, ℕ, ◌+◌, ◌<◌, ◌≤◌, nat_lt, List, [], ◌∷◌, Bool, true, false, not, ◌||◌, ⊎_elim, Option, Some, None, is_some, get_or, set, refl, sym, ap, ◌∙◌, arith, length-set}
 use Rattle.std.specs.List.{list_all}
 use Rattle.std.proofs.lemmas.Bool.Decides.{nat_tests, Decides-ltb}
 use Rattle.journal.specs.declared.entries.What.TheVariants.{Settle, Narrow, Take, Install, Fail, Spoil, Starve}
@@ -15,12 +15,11 @@ use Rattle.pool_rules.specs.Victim.{is_evictable}
 use Rattle.pool_rules.proofs.Allowed.{installed-absent, installed-below}
 use Rattle.pool_rules.proofs.Flags.{get_or-set_cases, place-within}
 use Rattle.pool_rules.proofs.Lengths.{HasItemAPage}
-use Rattle.pool_rules.proofs.Soundness.{IsLoose, loose, loads-loading, held-not}
+use Rattle.pool_rules.proofs.Soundness.{loose, loads-loading, held-not}
 use Rattle.pool_rules.proofs.Tests.{and-both, not-false}
 use Rattle.pool_tables.specs.Changes.{AreUsed, HaveMoreDependents, HaveFewerDependents}
 use Rattle.pool_tables.specs.PageRecords.{PageRecords, record_at, with_record}
 use Rattle.pool_tables.specs.PoolPages.{ArePagesOf}
-use Rattle.pool_tables.specs.declared.page_record.PageRecord.{PageRecord}
 use Rattle.pool_tables.proofs.PageEvents.{ArePagesOf-evicted, ArePagesOf-taken, ArePagesOf-ended, ArePagesOf-installed, ArePagesOf-used}
 use Rattle.pool_tables.proofs.PoolPages.{dependents-same}
 
@@ -86,7 +85,7 @@ pub still-absent : (s : State) (victim page : ℕ) → is_held s page ≡ false 
 still-absent s victim page absent =
     let parts = held-not (is_resident s page) (is_loading s page) absent in
     let gone : get_or (set s.resident victim false) page false ≡ false =
-        ⊎_elim (λ same. same ∙ parts.0) (λ here. here.1) (get_or-set_cases s.resident victim page false false) in
+    ⊎_elim (λ same. same ∙ parts.0) (λ here. here.1) (get_or-set_cases s.resident victim page false false) in
     ap (λ b. b || is_loading s page) gone ∙ parts.1
 
 pub ArePagesOf-victim : (layout : Layout) (s : State) (page victim : ℕ) (old new : PageRecords) → InBounds layout →

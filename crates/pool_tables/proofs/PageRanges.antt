@@ -1,5 +1,5 @@
 -- What holds of records that agree with a sound state: what the calls of the table require, and how many are held.
-use Rattle.std.proofs.Common.{◌≡◌, ◌≢◌, ℕ, zero, suc, ◌+◌, ◌-◌, ◌^◌, ◌<◌, ◌≤◌, List, [], ◌∷◌, Bool, true, false, cond, ◌||◌, ◌&&◌, Option, Some, None, is_some, get_or, length, map, fold, replicate, refl, sym, ap, ◌∙◌, subst, arith, inl, inr, ⊎_elim}
+use Rattle.std.proofs.Common.{◌≡◌, ℕ, zero, suc, ◌+◌, ◌-◌, ◌^◌, ◌<◌, ◌≤◌, List, [], ◌∷◌, Bool, true, false, ◌||◌, ◌&&◌, Option, is_some, get_or, length, map, fold, replicate, refl, sym, ap, ◌∙◌, arith, ⊎_elim}
 use Rattle.std.specs.List.{count_by, range_with_len}
 use Rattle.std.proofs.lemmas.List.{length-map}
 use Rattle.std.proofs.lemmas.List.FromFn.{length-range_with_len}
@@ -11,15 +11,13 @@ use Rattle.journal.specs.declared.layouts.Layout.{Layout}
 use Rattle.journal.specs.Layout.{InBounds, uppers_of, is_upper}
 use Rattle.pool_rules.specs.Numbers.{is_among}
 use Rattle.pool_rules.specs.Sound.{IsSound}
-use Rattle.pool_rules.specs.State.{State, is_resident, is_loading, is_held, held_count, initial_state, state_after, state_of, set_last_used, last_used_after}
+use Rattle.pool_rules.specs.State.{State, is_held, held_count, initial_state, state_after, state_of, set_last_used, last_used_after}
 use Rattle.pool_rules.specs.Victim.{last_used_of}
 use Rattle.pool_rules.proofs.Flags.{get_or-set_cases}
 use Rattle.pool_rules.proofs.Lengths.{HasItemAPage}
-use Rattle.pool_rules.proofs.LegalJournals.{state_of-push}
 use Rattle.pool_tables.specs.Changes.{times}
 use Rattle.pool_tables.specs.PageRecords.{PageRecords, record_at, is_record_held}
-use Rattle.pool_tables.specs.PoolPages.{dependent_count, loader_number, ArePagesOf}
-use Rattle.pool_tables.specs.declared.page_record.MakerId.{MakerId}
+use Rattle.pool_tables.specs.PoolPages.{loader_number, ArePagesOf}
 use Rattle.pool_tables.specs.declared.page_record.PageRecord.{PageRecord}
 use Rattle.pool_tables.proofs.PageCounts.{one, count-least}
 use Rattle.pool_tables.proofs.PoolPages.{resident_of, resident-at, loading-at, last_used-at, is_some-mapped, times-upper}
@@ -46,9 +44,9 @@ pub uppers-counted : (layout : Layout) (s : State) (table : PageRecords) (page :
     times (uppers_of layout page) p ≤ (record_at table.records p).dependents
 uppers-counted layout s table page bounds are held no_root below p =
     let least = count-least (λ q. is_held s q && is_upper layout p q) layout.roots (layout.pages - layout.roots) page
-        no_root (omega (arith, no_root, below)) in
+    no_root (omega (arith, no_root, below)) in
     let here : one (is_held s page && is_upper layout p page) ≡ one (is_upper layout p page) =
-        ap (λ b. one (b && is_upper layout p page)) held in
+    ap (λ b. one (b && is_upper layout p page)) held in
     omega (arith, times-upper layout page p bounds below, least, here, are.dependents p)
 
 one-most : (b : Bool) → one b ≤ 1
@@ -63,8 +61,15 @@ uppers-room layout s table page bounds are below p =
     let others = range_with_len layout.roots (layout.pages - layout.roots) in
     let most = count_by-le-length (λ q. is_held s q && is_upper layout p q) others in
     let pages = length-range_with_len layout.roots (layout.pages - layout.roots) in
-    omega (arith, times-upper layout page p bounds below, one-most (is_upper layout p page), most, pages, are.dependents p,
-    bounds.counts.page_limit)
+    omega (
+      arith,
+      times-upper layout page p bounds below,
+      one-most (is_upper layout p page),
+      most,
+      pages,
+      are.dependents p,
+      bounds.counts.page_limit,
+    )
 
 -- ---- no use comes after the last entry
 

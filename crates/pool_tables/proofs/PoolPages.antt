@@ -1,30 +1,19 @@
 -- The records of the pages agree with the state of the pool after no entry, and after each change of one entry.
-use Rattle.std.proofs.Common.{◌≡◌, ◌≢◌, ℕ, zero, suc, ◌+◌, ◌-◌, ◌^◌, ◌<◌, ◌≤◌, ◌==◌, nat_lt, List, [], ◌∷◌, Bool, true, false, not, cond, ◌||◌, ◌&&◌, ⊎_elim, Option, Some, None, is_some, get_or, set, length, map, fold, replicate, refl, sym, ap, ◌∙◌, subst, arith, eq-eqb, get_or-set_other, get_or-set_same, length-set}
-use Rattle.std.specs.List.{count_by, list_any, range_with_len}
+use Rattle.std.proofs.Common.{◌≡◌, ◌≢◌, ℕ, ◌+◌, ◌-◌, ◌<◌, ◌≤◌, List, Bool, true, false, ◌&&◌, Option, Some, None, is_some, get_or, set, length, map, refl, sym, ap, ◌∙◌, arith}
 use Rattle.std.specs.Option.{option_map}
 use Rattle.std.proofs.Math.ListN.{get_or-map}
 use Rattle.std.proofs.Math.Seq.{map-set_same}
-use Rattle.std.proofs.lemmas.Bool.{cases_eq}
-use Rattle.std.proofs.lemmas.Bool.Decides.{nat_tests, Decides-ltb}
-use Rattle.std.proofs.lemmas.List.{map-set, ext_get_or, length-map}
-use Rattle.std.proofs.lemmas.List.FromFn.{length-range_with_len}
-use Rattle.std.proofs.lemmas.List.Sums.{count_by-le-length}
+use Rattle.std.proofs.lemmas.List.{ext_get_or, length-map}
 use Rattle.journal.specs.declared.layouts.Layout.{Layout}
-use Rattle.journal.specs.Layout.{InBounds, page_numbers, uppers_of, is_upper}
-use Rattle.pool_rules.specs.Frame.{Frame}
-use Rattle.pool_rules.specs.Numbers.{is_among}
-use Rattle.pool_rules.specs.State.{State, is_resident, is_loading, is_held, initial_state, set_last_used}
+use Rattle.journal.specs.Layout.{InBounds, uppers_of, is_upper}
+use Rattle.pool_rules.specs.State.{State, is_resident, is_loading, is_held}
 use Rattle.pool_rules.specs.Victim.{last_used_of}
-use Rattle.pool_rules.specs.declared.want.Want.{Want}
-use Rattle.pool_rules.proofs.Soundness.{resident-root, none-loading}
-use Rattle.pool_tables.specs.Changes.{times, AreUsed, HaveMoreDependents, HaveFewerDependents}
-use Rattle.pool_tables.specs.PageRecords.{PageRecords, no_record, record_at, is_record_held, with_record, opening_record, opening_records}
+use Rattle.pool_tables.specs.Changes.{times}
+use Rattle.pool_tables.specs.PageRecords.{PageRecords, no_record, record_at, with_record}
 use Rattle.pool_tables.specs.PoolPages.{dependent_count, loader_number, ArePagesOf}
 use Rattle.pool_tables.specs.declared.page_record.MakerId.{MakerId}
 use Rattle.pool_tables.specs.declared.page_record.PageRecord.{PageRecord}
-use Rattle.pool_tables.proofs.Apart.{ne-eqb}
-use Rattle.pool_tables.proofs.Changes.{more-dependents, fewer-dependents}
-use Rattle.pool_tables.proofs.PageCounts.{one, count-same, count-changed, count-least, times-ascending}
+use Rattle.pool_tables.proofs.PageCounts.{one, count-same, count-changed, times-ascending}
 
 -- ---- one field of all records
 

@@ -1,15 +1,14 @@
 -- The first page that a search through the order of use finds comes first of all that pass.
-use Rattle.std.proofs.Common.{◌≡◌, ◌≢◌, ℕ, ◌+◌, ◌<◌, ◌≤◌, ◌==◌, nat_lt, List, [], ◌∷◌, Bool, true, false, not, cond, ◌&&◌, ◌⊎◌, inl, inr, ⊎_elim, Option, Some, None, find, refl, sym, ap, ◌∙◌, subst, arith, eq-eqb}
+use Rattle.std.proofs.Common.{◌≡◌, ◌≢◌, ℕ, ◌<◌, ◌==◌, nat_lt, List, [], ◌∷◌, Bool, true, false, not, cond, ◌&&◌, inl, inr, ⊎_elim, Option, Some, None, find, refl, sym, ap, ◌∙◌, subst, arith, eq-eqb}
 use Rattle.std.proofs.lemmas.Bool.{cases_eq}
 use Rattle.journal.specs.declared.layouts.Layout.{Layout}
 use Rattle.pool_rules.specs.Numbers.{is_among}
 use Rattle.pool_rules.specs.State.{State}
-use Rattle.pool_rules.specs.Victim.{last_used_of, is_evictable, victim_for, IsLessRecent, IsVictim, HasNoVictim}
+use Rattle.pool_rules.specs.Victim.{last_used_of, is_evictable, victim_for, IsLessRecent}
 use Rattle.pool_rules.proofs.Stalest.{IsVictim-from_some, HasNoVictim-from_none}
 use Rattle.pool_rules.proofs.Tests.{or-cases, or-left, or-right, same-eqb, and-both}
 use Rattle.pool_tables.specs.ListedPages.{ListedPages}
 use Rattle.pool_tables.specs.PageRecords.{PageRecords, record_at}
-use Rattle.pool_tables.specs.declared.page_record.PageRecord.{PageRecord}
 use Rattle.pool_tables.specs.Eviction.{is_candidate, may_be_evicted, ComesBefore, IsFirst}
 use Rattle.pool_tables.specs.Internal.UseOrder.{AreInOrder, used_at, IsUseOrder}
 use Rattle.pool_tables.proofs.Apart.{all-among}

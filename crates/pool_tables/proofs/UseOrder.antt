@@ -1,9 +1,9 @@
 -- What a change of one page's record leaves of the order of use and of the count of held pages.
-use Rattle.std.proofs.Common.{◌≡◌, ◌≢◌, ℕ, zero, suc, ◌+◌, ◌-◌, ◌<◌, ◌≤◌, ◌==◌, nat_lt, List, [], ◌∷◌, ◌++◌, Bool, true, false, not, cond, ◌||◌, ◌&&◌, ◌⊎◌, inl, inr, ⊎_elim, Option, Some, None, is_some, get_or, set, length, refl, sym, ap, ◌∙◌, subst, arith, eq-eqb, get_or-set_other, get_or-set_same, length-set}
-use Rattle.std.specs.List.{AllByRecursion, list_any, count_by}
+use Rattle.std.proofs.Common.{◌≡◌, ◌≢◌, ℕ, ◌+◌, ◌<◌, ◌≤◌, ◌==◌, nat_lt, List, [], ◌∷◌, ◌++◌, Bool, true, false, not, cond, ◌||◌, ◌&&◌, ◌⊎◌, inl, inr, ⊎_elim, is_some, set, length, refl, sym, ap, ◌∙◌, subst, arith, eq-eqb, get_or-set_other, get_or-set_same, length-set}
+use Rattle.std.specs.List.{AllByRecursion, count_by}
 use Rattle.std.proofs.lemmas.Bool.{cases_eq}
 use Rattle.std.proofs.lemmas.Bool.Decides.{nat_tests}
-use Rattle.std.proofs.lemmas.List.Sums.{sum_by-set, count_by-le-length}
+use Rattle.std.proofs.lemmas.List.Sums.{sum_by-set}
 use Rattle.pool_rules.specs.Numbers.{is_among}
 use Rattle.pool_rules.proofs.Flags.{place-within}
 use Rattle.pool_rules.proofs.Tests.{or-left, or-right}
@@ -11,7 +11,7 @@ use Rattle.pool_tables.specs.ListedPages.{ListedPages, without}
 use Rattle.pool_tables.specs.PageRecords.{no_record, record_at, is_record_held}
 use Rattle.pool_tables.specs.declared.page_record.PageRecord.{PageRecord}
 use Rattle.pool_tables.specs.Eviction.{ComesBefore}
-use Rattle.pool_tables.specs.Internal.UseOrder.{AreInOrder, used_at, IsUseOrder, IsHeldCount}
+use Rattle.pool_tables.specs.Internal.UseOrder.{AreInOrder, used_at, IsUseOrder}
 use Rattle.pool_tables.proofs.Apart.{ne-eqb, all-without, all-push, among-from_lacks, Lacks-without_same}
 
 -- ---- a page that is among others

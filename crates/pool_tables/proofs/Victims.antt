@@ -1,19 +1,18 @@
 -- The page that the table finds to evict is the victim of the rules, where records and pins agree with the state.
-use Rattle.std.proofs.Common.{◌≡◌, ◌≢◌, ℕ, ◌+◌, ◌-◌, ◌<◌, ◌≤◌, ◌==◌, nat_lt, List, [], Bool, true, false, not, ◌||◌, ◌&&◌, ◌⊎◌, inl, inr, ⊎_elim, Option, Some, None, get_or, length, refl, sym, ap, ◌∙◌, subst, arith}
-use Rattle.std.specs.List.{list_any, list_all, range_with_len}
+use Rattle.std.proofs.Common.{◌≡◌, ℕ, ◌+◌, ◌-◌, ◌<◌, ◌≤◌, ◌==◌, nat_lt, List, [], Bool, true, false, not, ◌||◌, ◌&&◌, inl, inr, ⊎_elim, Option, Some, None, get_or, length, refl, sym, ap, ◌∙◌, arith}
+use Rattle.std.specs.List.{list_any, range_with_len}
 use Rattle.std.proofs.lemmas.Bool.Decides.{nat_tests, Decides-ltb}
 use Rattle.journal.specs.declared.layouts.Layout.{Layout}
-use Rattle.journal.specs.Layout.{InBounds, page_numbers, uppers_of, is_upper}
+use Rattle.journal.specs.Layout.{InBounds, uppers_of, is_upper}
 use Rattle.pool_rules.specs.Numbers.{is_among}
 use Rattle.pool_rules.specs.State.{State, is_resident, is_held}
 use Rattle.pool_rules.specs.Victim.{last_used_of, is_pinned, is_stood_on, is_evictable, victim_for}
 use Rattle.pool_rules.proofs.Flags.{place-within}
 use Rattle.pool_rules.proofs.Lengths.{HasItemAPage}
 use Rattle.pool_rules.proofs.Tests.{all-at_any, and-both}
-use Rattle.pool_tables.specs.Eviction.{is_in_snapshot, is_candidate, may_be_evicted, ComesBefore, IsFirst}
+use Rattle.pool_tables.specs.Eviction.{is_in_snapshot, is_candidate, may_be_evicted, IsFirst}
 use Rattle.pool_tables.specs.PageRecords.{PageRecords, record_at}
 use Rattle.pool_tables.specs.PoolPages.{dependent_count, ArePagesOf, ArePinsOf}
-use Rattle.pool_tables.specs.declared.page_record.PageRecord.{PageRecord}
 use Rattle.pool_tables.proofs.PageCounts.{count-none, any-from}
 use Rattle.pool_tables.proofs.PoolPages.{resident-at, last_used-at}
 use Rattle.pool_tables.proofs.Searches.{victim_for-from_first}
@@ -44,7 +43,7 @@ dependents-none layout s page bounds no_root =
     let split : layout.pages ≡ layout.roots + others = omega (arith, bounds.counts.roots_are_pages) in
     let start : 0 + layout.roots ≡ layout.roots = omega arith in
     let later = any-from test 0 layout.roots others (λ q lt. last-false (is_held s q) (is_upper layout page q)
-        (no-dependent layout page q bounds no_root (omega (arith, lt)) (is_upper layout page q) refl)) in
+    (no-dependent layout page q bounds no_root (omega (arith, lt)) (is_upper layout page q) refl)) in
     count-none test (range_with_len layout.roots others)
     ∙ ap not (ap (λ n. list_any test (range_with_len n others)) (sym start)
     ∙ (sym later ∙ ap (λ n. list_any test (range_with_len 0 n)) (sym split)))

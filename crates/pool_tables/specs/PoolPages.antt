@@ -1,5 +1,5 @@
 -- When the records of the pages agree with the state of the pool.
-use Rattle.std.specs.Prelude.{◌≡◌, ◌==◌, ◌-◌, ◌&&◌, ◌||◌, ℕ, Bool, true, not, List, map, count_by, Option}
+use Rattle.std.specs.Prelude.{◌≡◌, ◌==◌, ◌-◌, ◌&&◌, ◌||◌, ℕ, true, not, List, map, count_by, Option}
 use Rattle.std.specs.List.{range_with_len}
 use Rattle.std.specs.Option.{option_map}
 use Rattle.journal.specs.declared.layouts.Layout.{Layout}

@@ -1,6 +1,4 @@
-use Rattle.std.proofs.Common.{◌≡◌, ◌<◌, ◌+◌, ◌^◌, ℕ, length, get_or, take, refl, arith}
-use Rattle.pool_tables.specs.Changes.{times}
-use Rattle.pool_tables.specs.PageRecords.{record_at}
+use Rattle.std.proofs.Common.{◌<◌, length, get_or, take, refl, arith}
 use Rattle.pool_tables.proofs.AscendingNumbers.{among-at}
 use Rattle.pool_tables.proofs.Changes.{HaveMoreDependents-step, more-dependents, times-ahead}
 use Rattle.pool_tables.proofs.page_table.PageTable.add_dependents.Goals as goal

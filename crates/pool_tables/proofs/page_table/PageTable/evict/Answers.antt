@@ -1,11 +1,8 @@
-use Rattle.std.proofs.Common.{◌≡◌, ℕ, ◌+◌, ◌-◌, ◌<◌, ◌≤◌, Bool, true, false, List, [], ◌∷◌, ◌++◌, ◌⊎◌, inl, inr, ⊎_elim, Some, None, is_some, IsSome, get_or, set, length, sym, ap, ◌∙◌, subst, refl, arith}
-use Rattle.std.specs.Vec.{vec_len}
+use Rattle.std.proofs.Common.{◌≡◌, true, false, None, is_some, ap, ◌∙◌, refl, arith}
 use Rattle.std.proofs.lemmas.List.{get_or_read}
-use Rattle.pool_rules.specs.Numbers.{is_among}
-use Rattle.pool_tables.specs.ListedPages.{ListedPages, without}
-use Rattle.pool_tables.specs.PageRecords.{no_record, record_at, is_record_held}
+use Rattle.pool_tables.specs.PageRecords.{no_record, record_at}
 use Rattle.pool_tables.specs.declared.page_record.PageRecord.{PageRecord}
-use Rattle.pool_tables.proofs.UseOrder.{resident-below, loading-below, held-same, held-more, held-less, held-resident, held-loading, held-neither, IsUseOrder-kept, IsUseOrder-evict, IsUseOrder-install, IsUseOrder-use, IsUseOrder-use_root}
+use Rattle.pool_tables.proofs.UseOrder.{resident-below, held-less, held-resident, held-neither, IsUseOrder-evict}
 use Rattle.pool_tables.proofs.page_table.PageTable.evict.Goals as goal
 
 pub invariant_of-self : goal.invariant_of-self

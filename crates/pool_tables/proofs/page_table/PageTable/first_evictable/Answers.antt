@@ -1,4 +1,4 @@
-use Rattle.std.proofs.Common.{◌≡◌, Option, find, sym, ap, ◌∙◌, subst, refl}
+use Rattle.std.proofs.Common.{◌≡◌, find, sym}
 use Rattle.pool_tables.specs.PageRecords.{PageRecords, record_at}
 use Rattle.pool_tables.specs.Eviction.{is_candidate, may_be_evicted, IsFirst}
 use Rattle.pool_tables.proofs.Searches.{IsFirst-from_find}

@@ -1,5 +1,4 @@
-use Rattle.std.proofs.Common.{◌≡◌, sym, ap, ◌∙◌, refl, arith}
-use Rattle.pool_tables.specs.PageRecords.{PageRecords}
+use Rattle.std.proofs.Common.{ap}
 use Rattle.pool_tables.proofs.Openings.{IsUseOrder-opening, held-opening}
 use Rattle.pool_tables.proofs.page_table.PageTable.new.Goals as goal
 

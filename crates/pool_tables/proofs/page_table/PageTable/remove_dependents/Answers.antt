@@ -1,4 +1,4 @@
-use Rattle.std.proofs.Common.{◌≡◌, ◌<◌, ◌+◌, ◌-◌, ℕ, length, get_or, take, refl, arith}
+use Rattle.std.proofs.Common.{◌<◌, length, get_or, take, refl, arith}
 use Rattle.pool_tables.proofs.AscendingNumbers.{among-at}
 use Rattle.pool_tables.proofs.Changes.{HaveFewerDependents-step, fewer-dependents, times-ahead}
 use Rattle.pool_tables.proofs.page_table.PageTable.remove_dependents.Goals as goal

@@ -1,11 +1,9 @@
-use Rattle.std.proofs.Common.{◌≡◌, ℕ, ◌+◌, ◌-◌, ◌≢◌, ◌<◌, ◌≤◌, ◌&&◌, nat_lt, not, Bool, true, false, List, [], ◌∷◌, ◌++◌, ◌⊎◌, inl, inr, ⊎_elim, Some, None, is_some, IsSome, get_or, set, length, sym, ap, ◌∙◌, subst, refl, arith}
-use Rattle.std.specs.Vec.{vec_len}
+use Rattle.std.proofs.Common.{◌≡◌, ℕ, ◌≢◌, ◌&&◌, nat_lt, not, true, ap, ◌∙◌, arith}
 use Rattle.std.proofs.lemmas.List.{get_or_read}
 use Rattle.pool_rules.specs.Numbers.{is_among}
-use Rattle.pool_tables.specs.ListedPages.{ListedPages, without}
 use Rattle.pool_tables.specs.PageRecords.{no_record, record_at, is_record_held, IsUsedBefore}
 use Rattle.pool_tables.specs.declared.page_record.PageRecord.{PageRecord}
-use Rattle.pool_tables.proofs.UseOrder.{above-roots, resident-below, loading-below, held-same, held-more, held-less, held-resident, held-loading, held-neither, IsUseOrder-kept, IsUseOrder-evict, IsUseOrder-install, IsUseOrder-use, IsUseOrder-use_root}
+use Rattle.pool_tables.proofs.UseOrder.{above-roots, resident-below, held-same, IsUseOrder-use, IsUseOrder-use_root}
 use Rattle.pool_tables.proofs.page_table.PageTable.use_page.Goals as goal
 
 pub invariant_of-self : goal.invariant_of-self

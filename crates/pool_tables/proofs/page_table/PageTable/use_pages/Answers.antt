@@ -1,4 +1,4 @@
-use Rattle.std.proofs.Common.{◌≡◌, ◌<◌, ◌+◌, ◌-◌, ℕ, length, drop, refl, subst, sym, arith}
+use Rattle.std.proofs.Common.{◌≡◌, ◌<◌, ◌+◌, ◌-◌, length, drop, refl, subst, arith}
 use Rattle.pool_tables.specs.Changes.{AreUsed}
 use Rattle.pool_tables.proofs.Changes.{before-step}
 use Rattle.pool_tables.proofs.page_table.PageTable.use_pages.Goals as goal
