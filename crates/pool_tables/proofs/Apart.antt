@@ -27,7 +27,8 @@ among-from_lacks [] number h = refl
 among-from_lacks (n ∷ numbers) number h = rw (ne-eqb n number h.0) (among-from_lacks numbers number h.1)
 
 -- one of the numbers has what all have
-pub all-among : (P : ℕ → Type 0) (numbers : List ℕ) (number : ℕ) → AllByRecursion P numbers → is_among numbers number ≡ true → P number
+pub all-among : (P : ℕ → Type 0) (numbers : List ℕ) (number : ℕ) → AllByRecursion P numbers →
+    is_among numbers number ≡ true → P number
 all-among P [] number all h = cc
 all-among P (n ∷ numbers) number all h =
     ⊎_elim
@@ -40,7 +41,8 @@ all-among P (n ∷ numbers) number all h =
 pub without-head : (number : ℕ) (numbers : List ℕ) → without number (number ∷ numbers) ≡ without number numbers
 without-head number numbers = rw (eq-eqb number number refl) refl
 
-pub without-other : (number n : ℕ) (numbers : List ℕ) → n ≢ number → without number (n ∷ numbers) ≡ n ∷ without number numbers
+pub without-other : (number n : ℕ) (numbers : List ℕ) → n ≢ number →
+    without number (n ∷ numbers) ≡ n ∷ without number numbers
 without-other number n numbers ne = rw (ne-eqb n number ne) refl
 
 pub without-lacking : (number : ℕ) (numbers : List ℕ) → Lacks numbers number → without number numbers ≡ numbers
@@ -49,7 +51,8 @@ without-lacking number (n ∷ numbers) h =
     without-other number n numbers h.0 ∙ ap (λ rest. n ∷ rest) (without-lacking number numbers h.1)
 
 -- what all numbers have, those that are left have
-pub all-without : (P : ℕ → Type 0) (number : ℕ) (numbers : List ℕ) → AllByRecursion P numbers → AllByRecursion P (without number numbers)
+pub all-without : (P : ℕ → Type 0) (number : ℕ) (numbers : List ℕ) → AllByRecursion P numbers →
+    AllByRecursion P (without number numbers)
 all-without P number [] h = tt
 all-without P number (n ∷ numbers) h =
     ⊎_elim
@@ -75,36 +78,43 @@ AreApart-without number (n ∷ numbers) h =
     (cases_eq n number)
 
 -- at most one number is left out
-pub length-without : (number : ℕ) (numbers : List ℕ) → AreApart numbers → length numbers ≤ length (without number numbers) + 1
+pub length-without : (number : ℕ) (numbers : List ℕ) → AreApart numbers →
+    length numbers ≤ length (without number numbers) + 1
 length-without number [] h = omega arith
 length-without number (n ∷ numbers) h =
     ⊎_elim
-    (λ same. let lacks : Lacks numbers number = subst (λ m. Lacks numbers m) same h.0 in rw (eq-eqb n number same, without-lacking number numbers lacks) (omega arith))
+    (λ same. let lacks : Lacks numbers number = subst (λ m. Lacks numbers m) same h.0 in
+        rw (eq-eqb n number same, without-lacking number numbers lacks) (omega arith))
     (λ ne. rw (ne-eqb n number ne) (omega (arith, length-without number numbers h.1)))
     (cases_eq n number)
 
 -- ---- with a number more
 
-pub all-push : (P : ℕ → Type 0) (numbers : List ℕ) (number : ℕ) → AllByRecursion P numbers → P number → AllByRecursion P (numbers ++ number ∷ [])
+pub all-push : (P : ℕ → Type 0) (numbers : List ℕ) (number : ℕ) → AllByRecursion P numbers → P number →
+    AllByRecursion P (numbers ++ number ∷ [])
 all-push P [] number h p = (p, tt)
 all-push P (n ∷ numbers) number h p = (h.0, all-push P numbers number h.1 p)
 
-pub AreApart-push : (numbers : List ℕ) (number : ℕ) → AreApart numbers → Lacks numbers number → AreApart (numbers ++ number ∷ [])
+pub AreApart-push : (numbers : List ℕ) (number : ℕ) → AreApart numbers → Lacks numbers number →
+    AreApart (numbers ++ number ∷ [])
 AreApart-push [] number h lacks = (tt, tt)
 AreApart-push (n ∷ numbers) number h lacks =
     (all-push (λ m. m ≢ n) numbers number h.0 (λ e. lacks.0 (sym e)), AreApart-push numbers number h.1 lacks.1)
 
 -- ---- how many there can be
 
-below-but_last : (n : ℕ) (numbers : List ℕ) → AllByRecursion (λ m. m < suc n) numbers → Lacks numbers n → AllByRecursion (λ m. m < n) numbers
+below-but_last : (n : ℕ) (numbers : List ℕ) → AllByRecursion (λ m. m < suc n) numbers → Lacks numbers n →
+    AllByRecursion (λ m. m < n) numbers
 below-but_last n [] h lacks = tt
 below-but_last n (m ∷ numbers) h lacks = (omega (arith, h.0, lacks.0), below-but_last n numbers h.1 lacks.1)
 
 -- numbers below n, none twice, are at most n
-pub length-apart : (n : ℕ) (numbers : List ℕ) → AreApart numbers → AllByRecursion (λ m. m < n) numbers → length numbers ≤ n
+pub length-apart : (n : ℕ) (numbers : List ℕ) → AreApart numbers → AllByRecursion (λ m. m < n) numbers →
+    length numbers ≤ n
 length-apart zero [] h below = omega arith
 length-apart zero (m ∷ numbers) h below = omega (arith, below.0)
 length-apart (suc n) numbers h below =
     let rest = without n numbers in
-    let few = length-apart n rest (AreApart-without n numbers h) (below-but_last n rest (all-without (λ m. m < suc n) n numbers below) (Lacks-without_same n numbers)) in
+    let few = length-apart n rest (AreApart-without n numbers h)
+        (below-but_last n rest (all-without (λ m. m < suc n) n numbers below) (Lacks-without_same n numbers)) in
     omega (arith, few, length-without n numbers h)

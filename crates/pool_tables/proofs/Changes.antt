@@ -25,51 +25,73 @@ used-resident true count r = refl
 used-resident false count r = refl
 
 -- used before the page, if it was used with it as a greater page
-used-before : (b : Bool) (count page p : ℕ) (r : PageRecord) → r.last_used < count → (b ≡ true → page < p) → IsUsedBefore count page p (used_if b count r).last_used
+used-before : (b : Bool) (count page p : ℕ) (r : PageRecord) → r.last_used < count → (b ≡ true → page < p) →
+    IsUsedBefore count page p (used_if b count r).last_used
 used-before true count page p r less greater = inr (refl, greater refl)
 used-before false count page p r less greater = inl less
 
-used-again : (b : Bool) (count : ℕ) (r now : PageRecord) → now ≡ used_if b count r → record now { last_used = count } ≡ used_if true count r
+used-again : (b : Bool) (count : ℕ) (r now : PageRecord) → now ≡ used_if b count r →
+    record now { last_used = count } ≡ used_if true count r
 used-again true count r now e = ap (λ (x : PageRecord). record x { last_used = count }) e
 used-again false count r now e = ap (λ (x : PageRecord). record x { last_used = count }) e
 
 -- the pages from place k on are that one and those after it
 from-place : (pages : List ℕ) (k : ℕ) → k < length pages → drop k pages ≡ get_or pages k 0 ∷ drop (k + 1) pages
-from-place pages k within = let e : suc k ≡ k + 1 = omega arith in drop-cons pages k 0 within ∙ ap (λ m. get_or pages k 0 ∷ drop m pages) e
+from-place pages k within = let e : suc k ≡ k + 1 = omega arith in drop-cons pages k 0 within
+    ∙ ap (λ m. get_or pages k 0 ∷ drop m pages) e
 
 among-here : (pages : List ℕ) (k : ℕ) → k < length pages → is_among (drop k pages) (get_or pages k 0) ≡ true
-among-here pages k within = subst (λ ps. is_among ps (get_or pages k 0) ≡ true) (sym (from-place pages k within)) (or-left (get_or pages k 0 == get_or pages k 0) (is_among (drop (k + 1) pages) (get_or pages k 0)) (eq-eqb (get_or pages k 0) (get_or pages k 0) refl))
+among-here pages k within = subst (λ ps. is_among ps (get_or pages k 0) ≡ true) (sym (from-place pages k within))
+    (or-left (get_or pages k 0 == get_or pages k 0) (is_among (drop (k + 1) pages) (get_or pages k 0))
+    (eq-eqb (get_or pages k 0) (get_or pages k 0) refl))
 
-among-other : (pages : List ℕ) (k p : ℕ) → k < length pages → p ≢ get_or pages k 0 → is_among (drop k pages) p ≡ is_among (drop (k + 1) pages) p
-among-other pages k p within other = ap (λ ps. is_among ps p) (from-place pages k within) ∙ ap (λ b. b || is_among (drop (k + 1) pages) p) (ne-eqb (get_or pages k 0) p (λ e. other (sym e)))
+among-other : (pages : List ℕ) (k p : ℕ) → k < length pages → p ≢ get_or pages k 0 →
+    is_among (drop k pages) p ≡ is_among (drop (k + 1) pages) p
+among-other pages k p within other = ap (λ ps. is_among ps p) (from-place pages k within)
+    ∙ ap (λ b. b || is_among (drop (k + 1) pages) p) (ne-eqb (get_or pages k 0) p (λ e. other (sym e)))
 
 -- the page at place k is used, where those after it were
-pub AreUsed-step : (count k page : ℕ) (pages : List ℕ) (old now : PageRecords) → k < length pages → page ≡ get_or pages k 0 → page < length now.records → AreUsed count (drop (k + 1) pages) old now → AreUsed count (drop k pages) old (with_record now page (record (record_at now.records page) { last_used = count }))
+pub AreUsed-step : (count k page : ℕ) (pages : List ℕ) (old now : PageRecords) → k < length pages →
+    page ≡ get_or pages k 0 → page < length now.records → AreUsed count (drop (k + 1) pages) old now →
+    AreUsed count (drop k pages) old (with_record now page (record (record_at now.records page) { last_used = count }))
 AreUsed-step count k page pages old now within is below used =
     let r : PageRecord = record (record_at now.records page) { last_used = count } in
-    let among : is_among (drop k pages) page ≡ true = subst (λ p. is_among (drop k pages) p ≡ true) (sym is) (among-here pages k within) in
+    let among : is_among (drop k pages) page ≡ true =
+        subst (λ p. is_among (drop k pages) p ≡ true) (sym is) (among-here pages k within) in
     record {
       roots = used.roots;
       len = length-set now.records page r ∙ used.len;
       records = λ p. ⊎_elim
-          (λ same. subst (λ q. record_at (set now.records page r) q ≡ used_if (is_among (drop k pages) q) count (record_at old.records q)) (sym same)
-          (record-same now.records page r below ∙ (used-again (is_among (drop (k + 1) pages) page) count (record_at old.records page) (record_at now.records page) (used.records page) ∙ ap (λ b. used_if b count (record_at old.records page)) (sym among))))
+          (λ same. subst (λ q. record_at (set now.records page r) q
+              ≡ used_if (is_among (drop k pages) q) count (record_at old.records q)) (sym same)
+          (record-same now.records page r below ∙ (used-again (is_among (drop (k + 1) pages) page) count
+              (record_at old.records page) (record_at now.records page) (used.records page)
+              ∙ ap (λ b. used_if b count (record_at old.records page)) (sym among))))
           (λ other.
           let other_too : p ≢ get_or pages k 0 = λ e. other (e ∙ sym is) in
-          record-other now.records page p r other ∙ (used.records p ∙ ap (λ b. used_if b count (record_at old.records p)) (sym (among-other pages k p within other_too))))
+          record-other now.records page p r other ∙ (used.records p
+              ∙ ap (λ b. used_if b count (record_at old.records p)) (sym (among-other pages k p within other_too))))
           (cases_eq p page);
     }
 
 -- the page at place k is resident
-pub resident-step : (count k page : ℕ) (pages : List ℕ) (old now : PageRecords) → k < length pages → page ≡ get_or pages k 0 → ((p : ℕ) → is_among pages p ≡ true → (record_at old.records p).resident ≡ true) → AreUsed count (drop (k + 1) pages) old now → (record_at now.records page).resident ≡ true
+pub resident-step : (count k page : ℕ) (pages : List ℕ) (old now : PageRecords) → k < length pages →
+    page ≡ get_or pages k 0 → ((p : ℕ) → is_among pages p ≡ true → (record_at old.records p).resident ≡ true) →
+    AreUsed count (drop (k + 1) pages) old now → (record_at now.records page).resident ≡ true
 resident-step count k page pages old now within is resident used =
-    ap (λ (x : PageRecord). x.resident) (used.records page) ∙ (used-resident (is_among (drop (k + 1) pages) page) count (record_at old.records page) ∙ resident page (among-at pages k page within (sym is)))
+    ap (λ (x : PageRecord). x.resident) (used.records page)
+        ∙ (used-resident (is_among (drop (k + 1) pages) page) count (record_at old.records page)
+        ∙ resident page (among-at pages k page within (sym is)))
 
 -- all others were used before it, or with it and are greater
-pub before-step : (count k page : ℕ) (pages : List ℕ) (old now : PageRecords) → k < length pages → page ≡ get_or pages k 0 → ascends pages ≡ true → ((p : ℕ) → (record_at old.records p).last_used < count) → AreUsed count (drop (k + 1) pages) old now → (p : ℕ) → IsUsedBefore count page p (record_at now.records p).last_used
+pub before-step : (count k page : ℕ) (pages : List ℕ) (old now : PageRecords) → k < length pages →
+    page ≡ get_or pages k 0 → ascends pages ≡ true → ((p : ℕ) → (record_at old.records p).last_used < count) →
+    AreUsed count (drop (k + 1) pages) old now → (p : ℕ) → IsUsedBefore count page p (record_at now.records p).last_used
 before-step count k page pages old now within is up later used p =
-    let greater : is_among (drop (k + 1) pages) p ≡ true → page < p = λ among. subst (λ q. q < p) (sym is) (after-place 0 pages k p up within among) in
-    subst (λ (x : PageRecord). IsUsedBefore count page p x.last_used) (sym (used.records p)) (used-before (is_among (drop (k + 1) pages) p) count page p (record_at old.records p) (later p) greater)
+    let greater : is_among (drop (k + 1) pages) p ≡ true →
+        page < p = λ among. subst (λ q. q < p) (sym is) (after-place 0 pages k p up within among) in
+    subst (λ (x : PageRecord). IsUsedBefore count page p x.last_used) (sym (used.records p))
+        (used-before (is_among (drop (k + 1) pages) p) count page p (record_at old.records p) (later p) greater)
 
 -- ---- dependents
 
@@ -77,7 +99,8 @@ pub HaveMoreDependents-none : (table : PageRecords) → HaveMoreDependents [] ta
 HaveMoreDependents-none table = record {
   roots = refl;
   len = refl;
-  records = λ page. ap (λ n. record (record_at table.records page) { dependents = n }) (none (record_at table.records page).dependents);
+  records = λ page. ap (λ n. record (record_at table.records page) { dependents = n })
+      (none (record_at table.records page).dependents);
 }
   where
     none : (n : ℕ) → n ≡ n + 0
@@ -87,18 +110,23 @@ pub HaveFewerDependents-none : (table : PageRecords) → HaveFewerDependents [] 
 HaveFewerDependents-none table = record {
   roots = refl;
   len = refl;
-  records = λ page. ap (λ n. record (record_at table.records page) { dependents = n }) (none (record_at table.records page).dependents);
+  records = λ page. ap (λ n. record (record_at table.records page) { dependents = n })
+      (none (record_at table.records page).dependents);
 }
   where
     none : (n : ℕ) → n ≡ n - 0
     none n = omega arith
 
 -- the page at a place is once more among those up to it
-times-here : (numbers : List ℕ) (i number : ℕ) → i < length numbers → number ≡ get_or numbers i 0 → times (take (i + 1) numbers) number ≡ times (take i numbers) number + 1
-times-here numbers i number within is = count_by_more_yes (λ n. n == number) numbers i 0 within (eq-eqb (get_or numbers i 0) number (sym is))
+times-here : (numbers : List ℕ) (i number : ℕ) → i < length numbers → number ≡ get_or numbers i 0 →
+    times (take (i + 1) numbers) number ≡ times (take i numbers) number + 1
+times-here numbers i number within is = count_by_more_yes (λ n. n == number) numbers i 0 within
+    (eq-eqb (get_or numbers i 0) number (sym is))
 
-times-other : (numbers : List ℕ) (i number : ℕ) → i < length numbers → number ≢ get_or numbers i 0 → times (take (i + 1) numbers) number ≡ times (take i numbers) number
-times-other numbers i number within other = count_by_more_no (λ n. n == number) numbers i 0 within (ne-eqb (get_or numbers i 0) number (λ e. other (sym e)))
+times-other : (numbers : List ℕ) (i number : ℕ) → i < length numbers → number ≢ get_or numbers i 0 →
+    times (take (i + 1) numbers) number ≡ times (take i numbers) number
+times-other numbers i number within other =
+    count_by_more_no (λ n. n == number) numbers i 0 within (ne-eqb (get_or numbers i 0) number (λ e. other (sym e)))
 
 -- the page at a place is among all numbers more often than among those before it
 pub times-ahead : (numbers : List ℕ) (i number : ℕ) → i < length numbers → number ≡ get_or numbers i 0 →
@@ -114,36 +142,60 @@ pub fewer-dependents : (uppers : List ℕ) (old new : PageRecords) → HaveFewer
     (record_at new.records page).dependents ≡ (record_at old.records page).dependents - times uppers page
 fewer-dependents uppers old new fewer page = ap (λ (x : PageRecord). x.dependents) (fewer.records page)
 
-pub HaveMoreDependents-step : (i page : ℕ) (uppers : List ℕ) (old now : PageRecords) → i < length uppers → page ≡ get_or uppers i 0 → page < length now.records → HaveMoreDependents (take i uppers) old now → HaveMoreDependents (take (i + 1) uppers) old (with_record now page (record (record_at now.records page) { dependents = (record_at now.records page).dependents + 1 }))
+pub HaveMoreDependents-step : (i page : ℕ) (uppers : List ℕ) (old now : PageRecords) → i < length uppers →
+    page ≡ get_or uppers i 0 → page < length now.records → HaveMoreDependents (take i uppers) old now →
+    HaveMoreDependents (take (i + 1) uppers) old
+    (with_record now page (record (record_at now.records page)
+    { dependents = (record_at now.records page).dependents + 1 }))
 HaveMoreDependents-step i page uppers old now within is below more =
-    let r : PageRecord = record (record_at now.records page) { dependents = (record_at now.records page).dependents + 1 } in
+    let r : PageRecord = record (record_at now.records page)
+        { dependents = (record_at now.records page).dependents + 1 } in
     record {
       roots = more.roots;
       len = length-set now.records page r ∙ more.len;
       records = λ p. ⊎_elim
-          (λ same. subst (λ q. record_at (set now.records page r) q ≡ record (record_at old.records q) { dependents = (record_at old.records q).dependents + times (take (i + 1) uppers) q }) (sym same)
-          (record-same now.records page r below ∙ (ap (λ (x : PageRecord). record x { dependents = x.dependents + 1 }) (more.records page) ∙ ap (λ n. record (record_at old.records page) { dependents = n }) (again (record_at old.records page).dependents (times (take i uppers) page) (times (take (i + 1) uppers) page) (times-here uppers i page within is)))))
+          (λ same. subst (λ q. record_at (set now.records page r) q
+              ≡ record (record_at old.records q) { dependents =
+              (record_at old.records q).dependents + times (take (i + 1) uppers) q }) (sym same)
+          (record-same now.records page r below ∙ (ap (λ (x : PageRecord). record x { dependents = x.dependents + 1 })
+              (more.records page) ∙ ap (λ n. record (record_at old.records page) { dependents = n })
+              (again (record_at old.records page).dependents (times (take i uppers) page)
+              (times (take (i + 1) uppers) page) (times-here uppers i page within is)))))
           (λ other.
           let other_too : p ≢ get_or uppers i 0 = λ e. other (e ∙ sym is) in
-          record-other now.records page p r other ∙ (more.records p ∙ ap (λ n. record (record_at old.records p) { dependents = (record_at old.records p).dependents + n }) (sym (times-other uppers i p within other_too))))
+          record-other now.records page p r other ∙ (more.records p
+              ∙ ap (λ n. record (record_at old.records p) { dependents = (record_at old.records p).dependents + n })
+              (sym (times-other uppers i p within other_too))))
           (cases_eq p page);
     }
   where
     again : (a b c : ℕ) → c ≡ b + 1 → a + b + 1 ≡ a + c
     again a b c e = omega (arith, e)
 
-pub HaveFewerDependents-step : (i page : ℕ) (uppers : List ℕ) (old now : PageRecords) → i < length uppers → page ≡ get_or uppers i 0 → page < length now.records → HaveFewerDependents (take i uppers) old now → HaveFewerDependents (take (i + 1) uppers) old (with_record now page (record (record_at now.records page) { dependents = (record_at now.records page).dependents - 1 }))
+pub HaveFewerDependents-step : (i page : ℕ) (uppers : List ℕ) (old now : PageRecords) → i < length uppers →
+    page ≡ get_or uppers i 0 → page < length now.records → HaveFewerDependents (take i uppers) old now →
+    HaveFewerDependents (take (i + 1) uppers) old
+    (with_record now page (record (record_at now.records page)
+    { dependents = (record_at now.records page).dependents - 1 }))
 HaveFewerDependents-step i page uppers old now within is below fewer =
-    let r : PageRecord = record (record_at now.records page) { dependents = (record_at now.records page).dependents - 1 } in
+    let r : PageRecord = record (record_at now.records page)
+        { dependents = (record_at now.records page).dependents - 1 } in
     record {
       roots = fewer.roots;
       len = length-set now.records page r ∙ fewer.len;
       records = λ p. ⊎_elim
-          (λ same. subst (λ q. record_at (set now.records page r) q ≡ record (record_at old.records q) { dependents = (record_at old.records q).dependents - times (take (i + 1) uppers) q }) (sym same)
-          (record-same now.records page r below ∙ (ap (λ (x : PageRecord). record x { dependents = x.dependents - 1 }) (fewer.records page) ∙ ap (λ n. record (record_at old.records page) { dependents = n }) (again (record_at old.records page).dependents (times (take i uppers) page) (times (take (i + 1) uppers) page) (times-here uppers i page within is)))))
+          (λ same. subst (λ q. record_at (set now.records page r) q
+              ≡ record (record_at old.records q) { dependents =
+              (record_at old.records q).dependents - times (take (i + 1) uppers) q }) (sym same)
+          (record-same now.records page r below ∙ (ap (λ (x : PageRecord). record x { dependents = x.dependents - 1 })
+              (fewer.records page) ∙ ap (λ n. record (record_at old.records page) { dependents = n })
+              (again (record_at old.records page).dependents (times (take i uppers) page)
+              (times (take (i + 1) uppers) page) (times-here uppers i page within is)))))
           (λ other.
           let other_too : p ≢ get_or uppers i 0 = λ e. other (e ∙ sym is) in
-          record-other now.records page p r other ∙ (fewer.records p ∙ ap (λ n. record (record_at old.records p) { dependents = (record_at old.records p).dependents - n }) (sym (times-other uppers i p within other_too))))
+          record-other now.records page p r other ∙ (fewer.records p
+              ∙ ap (λ n. record (record_at old.records p) { dependents = (record_at old.records p).dependents - n })
+              (sym (times-other uppers i p within other_too))))
           (cases_eq p page);
     }
   where

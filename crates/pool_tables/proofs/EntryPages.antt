@@ -39,17 +39,20 @@ ArePagesOf-again layout s t table resident loading last_used are = record {
 -- ---- which pages the entries change
 
 -- a page that is not resident is no root page
-pub no-root : (layout : Layout) (s : State) (page : ℕ) → IsSound layout s → is_resident s page ≡ false → layout.roots ≤ page
+pub no-root : (layout : Layout) (s : State) (page : ℕ) → IsSound layout s → is_resident s page ≡ false →
+    layout.roots ≤ page
 no-root layout s page sound absent = above (nat_lt page layout.roots) refl
   where
     above : (b : Bool) → nat_lt page layout.roots ≡ b → layout.roots ≤ page
-    above true e = let resident : is_resident s page ≡ true = sound.roots_stay page ((Decides-ltb page layout.roots).0 e) in cc
+    above true e = let resident : is_resident s page ≡ true =
+        sound.roots_stay page ((Decides-ltb page layout.roots).0 e) in cc
     above false e = grind (arith, nat_tests)
 
 -- a page that can be taken is not held
 pub taken-absent : (layout : Layout) (s : State) (page : ℕ) → can_take layout s page ≡ true → is_held s page ≡ false
 taken-absent layout s page can =
-    not-false (is_held s page) (and-both (not (is_held s page)) (list_all (is_resident s) (uppers_of layout page)) can).0
+    not-false (is_held s page) (and-both (not (is_held s page)) (list_all (is_resident s) (uppers_of layout page))
+        can).0
 
 -- a resident page is not being loaded
 pub resident-idle : (layout : Layout) (s : State) (page : ℕ) → IsSound layout s → is_resident s page ≡ true →
@@ -81,7 +84,8 @@ HasItemAPage-without layout s victim lists = record {
   maker_a_page = lists.maker_a_page;
 }
 
-pub still-absent : (s : State) (victim page : ℕ) → is_held s page ≡ false → is_held (without_victim s victim) page ≡ false
+pub still-absent : (s : State) (victim page : ℕ) → is_held s page ≡ false →
+    is_held (without_victim s victim) page ≡ false
 still-absent s victim page absent =
     let parts = held-not (is_resident s page) (is_loading s page) absent in
     let gone : get_or (set s.resident victim false) page false ≡ false =
@@ -100,7 +104,8 @@ ArePagesOf-victim layout s page victim old new bounds lists sound are evictable 
     (resident-page layout s victim lists free.resident) fewer
 
 pub ArePagesOf-take : (layout : Layout) (s : State) (by : ℕ) (frame : Option ℕ) (page : ℕ) (old new : PageRecords) →
-    InBounds layout → HasItemAPage layout s → IsSound layout s → ArePagesOf layout s old → can_take layout s page ≡ true →
+    InBounds layout → HasItemAPage layout s → IsSound layout s → ArePagesOf layout s old →
+        can_take layout s page ≡ true →
     page < layout.pages →
     HaveMoreDependents (uppers_of layout page)
     (with_record old page (record (record_at old.records page) { loader = Some (record { 0 = by }) })) new →
@@ -111,7 +116,8 @@ ArePagesOf-take layout s by frame page old new bounds lists sound are can below 
     ArePagesOf-again layout (record s { loading = set s.loading page (Some by) }) _ new refl refl refl
     (ArePagesOf-taken layout s page by old new bounds lists are absent no_root below more)
 
-pub ArePagesOf-take_for : (layout : Layout) (s : State) (by : ℕ) (frame : Option ℕ) (page victim : ℕ) (mid new : PageRecords) →
+pub ArePagesOf-take_for : (layout : Layout) (s : State) (by : ℕ) (frame : Option ℕ) (page victim : ℕ)
+    (mid new : PageRecords) →
     InBounds layout → HasItemAPage layout s → IsSound layout s → ArePagesOf layout (without_victim s victim) mid →
     can_take layout s page ≡ true → page < layout.pages →
     HaveMoreDependents (uppers_of layout page)
@@ -156,7 +162,8 @@ pub ArePagesOf-lost : (layout : Layout) (s : State) (by page : ℕ) (old new : P
 ArePagesOf-lost layout s by page old new bounds lists sound are loads fewer =
     let absent = installed-absent layout s by page sound loads in
     ArePagesOf-ended layout s page (s.entries + 1) old new bounds lists are absent (loads-loading s by page loads)
-    (no-root layout s page sound absent) (omega (arith, installed-below layout s by page lists loads, lists.flag_a_page)) fewer
+    (no-root layout s page sound absent) (omega
+        (arith, installed-below layout s by page lists loads, lists.flag_a_page)) fewer
 
 pub ArePagesOf-fail : (layout : Layout) (s : State) (by page before after : ℕ) (table : PageRecords) →
     ArePagesOf layout (record s { loading = set s.loading page None }) table →
@@ -182,12 +189,14 @@ pub ArePagesOf-settle : (layout : Layout) (s : State) (by frame : ℕ) (pages mi
     ArePagesOf layout s old → AreUsed (s.entries + 1) pages old new →
     ArePagesOf layout (state_after s (record { by = by; what = Settle frame pages missing })) new
 ArePagesOf-settle layout s by frame pages missing old new are used =
-    ArePagesOf-again layout (record s { last_used = set_last_used (s.entries + 1) pages s.last_used }) _ new refl refl refl
+    ArePagesOf-again layout (record s { last_used = set_last_used (s.entries + 1) pages s.last_used }) _ new refl refl
+        refl
     (ArePagesOf-used layout s (s.entries + 1) pages old new are used)
 
 pub ArePagesOf-narrow : (layout : Layout) (s : State) (by frame : ℕ) (pages : List ℕ) (old new : PageRecords) →
     ArePagesOf layout s old → AreUsed (s.entries + 1) pages old new →
     ArePagesOf layout (state_after s (record { by = by; what = Narrow frame pages })) new
 ArePagesOf-narrow layout s by frame pages old new are used =
-    ArePagesOf-again layout (record s { last_used = set_last_used (s.entries + 1) pages s.last_used }) _ new refl refl refl
+    ArePagesOf-again layout (record s { last_used = set_last_used (s.entries + 1) pages s.last_used }) _ new refl refl
+        refl
     (ArePagesOf-used layout s (s.entries + 1) pages old new are used)

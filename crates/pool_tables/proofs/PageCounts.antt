@@ -49,7 +49,8 @@ count-changed f g a (suc n) page from below same =
     (cases_eq a page)
 
 -- one number of the range that passes is counted
-pub count-least : (f : ℕ → Bool) (a n page : ℕ) → a ≤ page → page < a + n → one (f page) ≤ count_by f (range_with_len a n)
+pub count-least : (f : ℕ → Bool) (a n page : ℕ) → a ≤ page → page < a + n →
+    one (f page) ≤ count_by f (range_with_len a n)
 count-least f a n page from below =
     let g = λ (q : ℕ). f q && not (q == page) in
     let none : one (g page) ≡ 0 = ap one (ap (λ b. f page && not b) (eq-eqb page page refl) ∙ and-false (f page)) in
@@ -115,5 +116,6 @@ times-ascending low (n ∷ numbers) number up =
   where
     no-more : (n number : ℕ) (numbers : List ℕ) → n ≡ number → ascends_from (n + 1) numbers ≡ true → (b : Bool) →
         is_among numbers number ≡ b → is_among numbers number ≡ false
-    no-more n number numbers here up true among = absurd (omega (arith, here, low-among (n + 1) numbers number up among))
+    no-more n number numbers here up true among =
+        absurd (omega (arith, here, low-among (n + 1) numbers number up among))
     no-more n number numbers here up false absent = absent

@@ -53,13 +53,15 @@ none-counted : (a n : ℕ) → count_by (λ (q : ℕ). false) (range_with_len a 
 none-counted a zero = refl
 none-counted a (suc n) = none-counted (a + 1) n
 
-pub ArePagesOf-opening : (layout : Layout) → ArePagesOf layout (initial_state layout) (opening_records layout.pages layout.roots)
+pub ArePagesOf-opening : (layout : Layout) →
+    ArePagesOf layout (initial_state layout) (opening_records layout.pages layout.roots)
 ArePagesOf-opening layout =
     let numbers = page_numbers layout in
     record {
       roots = refl;
       resident = opening-map resident_of (λ page. nat_lt page layout.roots) layout.roots numbers (λ q. refl);
-      loading = opening-map loader_number (λ page. None) layout.roots numbers (λ q. refl) ∙ map-constant None 0 layout.pages;
+      loading = opening-map loader_number (λ page. None) layout.roots numbers (λ q. refl)
+          ∙ map-constant None 0 layout.pages;
       last_used = opening-map used_of (λ page. 0) layout.roots numbers (λ q. refl) ∙ map-constant 0 0 layout.pages;
       dependents = λ page. opening-dependents layout.roots numbers page ∙ sym (none page);
     }
@@ -75,7 +77,8 @@ ArePagesOf-opening layout =
 pub ArePagesOf-evicted : (layout : Layout) (s : State) (page : ℕ) (old new : PageRecords) → InBounds layout →
     HasItemAPage layout s → ArePagesOf layout s old → is_resident s page ≡ true → is_loading s page ≡ false →
     layout.roots ≤ page → page < layout.pages →
-    HaveFewerDependents (uppers_of layout page) (with_record old page (record (record_at old.records page) { resident = false })) new →
+    HaveFewerDependents (uppers_of layout page)
+        (with_record old page (record (record_at old.records page) { resident = false })) new →
     ArePagesOf layout (record s { resident = set s.resident page false }) new
 ArePagesOf-evicted layout s page old new bounds lists are resident idle no_root below fewer =
     let r : PageRecord = record (record_at old.records page) { resident = false } in
@@ -85,7 +88,8 @@ ArePagesOf-evicted layout s page old new bounds lists are resident idle no_root 
     λ q other. ap (λ b. b || is_loading s q) (get_or-set_other s.resident page q false false other) in
     let held : is_held s page ≡ true = ap (λ b. b || is_loading s page) resident in
     let absent : is_held t page ≡ false =
-    ap (λ b. b || is_loading s page) (get_or-set_same s.resident page false false (omega (arith, below, lists.flag_a_page))) ∙ idle in
+    ap (λ b. b || is_loading s page) (get_or-set_same s.resident page false false
+        (omega (arith, below, lists.flag_a_page))) ∙ idle in
     record {
       roots = fewer.roots ∙ are.roots;
       resident = maps-kept resident_of mid.records new.records fewer.len (λ p. ap resident_of (fewer.records p))
@@ -105,16 +109,19 @@ ArePagesOf-evicted layout s page old new bounds lists are resident idle no_root 
 pub ArePagesOf-taken : (layout : Layout) (s : State) (page by : ℕ) (old new : PageRecords) → InBounds layout →
     HasItemAPage layout s → ArePagesOf layout s old → is_held s page ≡ false → layout.roots ≤ page →
     page < layout.pages →
-    HaveMoreDependents (uppers_of layout page) (with_record old page (record (record_at old.records page) { loader = Some (record { 0 = by }) })) new →
+    HaveMoreDependents (uppers_of layout page)
+        (with_record old page (record (record_at old.records page) { loader = Some (record { 0 = by }) })) new →
     ArePagesOf layout (record s { loading = set s.loading page (Some by) }) new
 ArePagesOf-taken layout s page by old new bounds lists are absent no_root below more =
     let r : PageRecord = record (record_at old.records page) { loader = Some (record { 0 = by }) } in
     let mid = with_record old page r in
     let t : State = record s { loading = set s.loading page (Some by) } in
     let others : (q : ℕ) → q ≢ page → is_held t q ≡ is_held s q =
-    λ q other. ap (λ maker. is_resident s q || is_some maker) (get_or-set_other s.loading page q (Some by) None other) in
+    λ q other. ap (λ maker. is_resident s q || is_some maker)
+        (get_or-set_other s.loading page q (Some by) None other) in
     let held : is_held t page ≡ true =
-    ap (λ maker. is_resident s page || is_some maker) (get_or-set_same s.loading page (Some by) None (omega (arith, below, lists.maker_a_page)))
+    ap (λ maker. is_resident s page || is_some maker)
+        (get_or-set_same s.loading page (Some by) None (omega (arith, below, lists.maker_a_page)))
     ∙ or-true (is_resident s page) in
     record {
       roots = more.roots ∙ are.roots;
@@ -137,7 +144,8 @@ ArePagesOf-taken layout s page by old new bounds lists are absent no_root below 
 pub ArePagesOf-ended : (layout : Layout) (s : State) (page count : ℕ) (old new : PageRecords) → InBounds layout →
     HasItemAPage layout s → ArePagesOf layout s old → is_resident s page ≡ false → is_loading s page ≡ true →
     layout.roots ≤ page → page < layout.pages →
-    HaveFewerDependents (uppers_of layout page) (with_record old page (record (record_at old.records page) { loader = None; load_ended_at = count })) new →
+    HaveFewerDependents (uppers_of layout page)
+        (with_record old page (record (record_at old.records page) { loader = None; load_ended_at = count })) new →
     ArePagesOf layout (record s { loading = set s.loading page None }) new
 ArePagesOf-ended layout s page count old new bounds lists are absent loading no_root below fewer =
     let r : PageRecord = record (record_at old.records page) { loader = None; load_ended_at = count } in
@@ -147,7 +155,8 @@ ArePagesOf-ended layout s page count old new bounds lists are absent loading no_
     λ q other. ap (λ maker. is_resident s q || is_some maker) (get_or-set_other s.loading page q None None other) in
     let held : is_held s page ≡ true = ap (λ b. is_resident s page || b) loading ∙ or-true (is_resident s page) in
     let no_more : is_held t page ≡ false =
-    ap (λ maker. is_resident s page || is_some {T = ℕ} maker) (get_or-set_same s.loading page None None (omega (arith, below, lists.maker_a_page)))
+    ap (λ maker. is_resident s page || is_some {T = ℕ} maker)
+        (get_or-set_same s.loading page None None (omega (arith, below, lists.maker_a_page)))
     ∙ ap (λ b. b || false) absent in
     record {
       roots = fewer.roots ∙ are.roots;
@@ -210,16 +219,20 @@ ArePagesOf-installed layout s page count old lists are loading below =
     or-true true = refl
     or-true false = refl
 
-    now : (flags : List Bool) (makers : List (Option ℕ)) → page < length flags → is_some (get_or makers page None) ≡ true →
-        (get_or (set flags page true) page false || is_some (get_or (set makers page None) page None)) ≡ (get_or flags page false || is_some (get_or makers page None))
+    now : (flags : List Bool) (makers : List (Option ℕ)) → page < length flags →
+        is_some (get_or makers page None) ≡ true →
+        (get_or (set flags page true) page false || is_some (get_or (set makers page None) page None))
+            ≡ (get_or flags page false || is_some (get_or makers page None))
     now flags makers lt is =
         ap (λ b. b || is_some (get_or (set makers page None) page None)) (get_or-set_same flags page true false lt)
         ∙ sym (ap (λ b. get_or flags page false || b) is ∙ or-true (get_or flags page false))
 
-    same : (q : ℕ) → (get_or (set s.resident page true) q false || is_some (get_or (set s.loading page None) q None)) ≡ (get_or s.resident q false || is_some (get_or s.loading q None))
+    same : (q : ℕ) → (get_or (set s.resident page true) q false || is_some (get_or (set s.loading page None) q None))
+        ≡ (get_or s.resident q false || is_some (get_or s.loading q None))
     same q = ⊎_elim
         (λ here. rw here (now s.resident s.loading (omega (arith, below, lists.flag_a_page)) loading))
-        (λ other. rw (get_or-set_other s.resident page q true false other, get_or-set_other s.loading page q None None other) refl)
+        (λ other. rw (get_or-set_other s.resident page q true false other, get_or-set_other s.loading page q None None
+            other) refl)
         (cases_eq q page)
 
 -- ---- pages are used
@@ -244,16 +257,19 @@ used-there count (page ∷ pages) counts p within =
     both true v e = refl
     both false v e = e
 
-    here-used : (b : Bool) → page ≡ p → cond b count (get_or (set counts page count) p 0) ≡ cond ((page == p) || b) count (get_or counts p 0)
+    here-used : (b : Bool) → page ≡ p → cond b count (get_or (set counts page count) p 0)
+        ≡ cond ((page == p) || b) count (get_or counts p 0)
     here-used b here =
-        both b (get_or (set counts page count) p 0) (ap (λ i. get_or (set counts i count) p 0) here ∙ get_or-set_same counts p count 0 within)
+        both b (get_or (set counts page count) p 0)
+            (ap (λ i. get_or (set counts i count) p 0) here ∙ get_or-set_same counts p count 0 within)
         ∙ sym (ap (λ c. cond (c || b) count (get_or counts p 0)) (eq-eqb page p here))
 
 used-count : (b : Bool) (count : ℕ) (r : PageRecord) → (used_if b count r).last_used ≡ cond b count r.last_used
 used-count true count r = refl
 used-count false count r = refl
 
-used-kept : {X : Type 0} (f : PageRecord → X) (b : Bool) (count : ℕ) (r : PageRecord) → ((q : PageRecord) → f (record q { last_used = count }) ≡ f q) → f (used_if b count r) ≡ f r
+used-kept : {X : Type 0} (f : PageRecord → X) (b : Bool) (count : ℕ) (r : PageRecord) →
+    ((q : PageRecord) → f (record q { last_used = count }) ≡ f q) → f (used_if b count r) ≡ f r
 used-kept f true count r same = same r
 used-kept f false count r same = refl
 
@@ -264,21 +280,26 @@ ArePagesOf-used layout s count pages old new are used = record {
   roots = used.roots ∙ are.roots;
   resident = maps-kept resident_of old.records new.records used.len (kept resident_of (λ q. refl)) ∙ are.resident;
   loading = maps-kept loader_number old.records new.records used.len (kept loader_number (λ q. refl)) ∙ are.loading;
-  last_used = ext_get_or 0 (map used_of new.records) (set_last_used count pages s.last_used) (lengths ∙ sym (length-used count pages s.last_used)) there;
+  last_used = ext_get_or 0 (map used_of new.records) (set_last_used count pages s.last_used)
+      (lengths ∙ sym (length-used count pages s.last_used)) there;
   dependents = λ p. kept (λ (x : PageRecord). x.dependents) (λ q. refl) p ∙ are.dependents p;
 }
   where
-    kept : {X : Type 0} (f : PageRecord → X) → ((q : PageRecord) → f (record q { last_used = count }) ≡ f q) → (p : ℕ) → f (record_at new.records p) ≡ f (record_at old.records p)
+    kept : {X : Type 0} (f : PageRecord → X) → ((q : PageRecord) → f (record q { last_used = count }) ≡ f q) → (p : ℕ) →
+        f (record_at new.records p) ≡ f (record_at old.records p)
     kept f same p = ap f (used.records p) ∙ used-kept f (is_among pages p) count (record_at old.records p) same
 
     lengths : length (map used_of new.records) ≡ length s.last_used
-    lengths = length-map new.records used_of ∙ (used.len ∙ (sym (length-map old.records used_of) ∙ ap length are.last_used))
+    lengths = length-map new.records used_of
+        ∙ (used.len ∙ (sym (length-map old.records used_of) ∙ ap length are.last_used))
 
-    there : (p : ℕ) → p < length (map used_of new.records) → get_or (map used_of new.records) p 0 ≡ get_or (set_last_used count pages s.last_used) p 0
+    there : (p : ℕ) → p < length (map used_of new.records) →
+        get_or (map used_of new.records) p 0 ≡ get_or (set_last_used count pages s.last_used) p 0
     there p within =
         let lt : p < length s.last_used = omega (arith, within, lengths) in
         get_or-map used_of new.records p no_record
         ∙ (ap used_of (used.records p)
         ∙ (used-count (is_among pages p) count (record_at old.records p)
-        ∙ (ap (λ n. cond (is_among pages p) count n) (sym (get_or-map used_of old.records p no_record) ∙ ap (λ counts. get_or counts p 0) are.last_used)
+        ∙ (ap (λ n. cond (is_among pages p) count n)
+            (sym (get_or-map used_of old.records p no_record) ∙ ap (λ counts. get_or counts p 0) are.last_used)
         ∙ sym (used-there count pages s.last_used p lt))))

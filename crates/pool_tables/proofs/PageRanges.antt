@@ -26,13 +26,15 @@ use Rattle.pool_tables.proofs.Victims.{upper-below}
 -- ---- what the calls require
 
 -- there is a record by page
-pub record-a_page : (layout : Layout) (s : State) (table : PageRecords) → HasItemAPage layout s → ArePagesOf layout s table →
+pub record-a_page : (layout : Layout) (s : State) (table : PageRecords) → HasItemAPage layout s →
+    ArePagesOf layout s table →
     length table.records ≡ layout.pages
 record-a_page layout s table lists are =
     sym (length-map table.records resident_of) ∙ (ap length are.resident ∙ lists.flag_a_page)
 
 -- a page's uppers have records
-pub uppers-in_range : (layout : Layout) (s : State) (table : PageRecords) (page : ℕ) → InBounds layout → HasItemAPage layout s →
+pub uppers-in_range : (layout : Layout) (s : State) (table : PageRecords) (page : ℕ) → InBounds layout →
+    HasItemAPage layout s →
     ArePagesOf layout s table → page < layout.pages → (p : ℕ) → is_among (uppers_of layout page) p ≡ true →
     p < length table.records
 uppers-in_range layout s table page bounds lists are below p upper =
@@ -77,12 +79,14 @@ uppers-room layout s table page bounds are below p =
 abbrev UsedBy : ℕ → List ℕ → Type 0
 UsedBy count counts = (page : ℕ) → get_or counts page 0 ≤ count
 
-used-by-set : (count : ℕ) (pages counts : List ℕ) → UsedBy count counts → UsedBy count (set_last_used count pages counts)
+used-by-set : (count : ℕ) (pages counts : List ℕ) → UsedBy count counts →
+    UsedBy count (set_last_used count pages counts)
 used-by-set count [] counts by = by
 used-by-set count (page ∷ pages) counts by = used-by-set count pages _ (λ p.
     ⊎_elim (λ same. omega (arith, same, by p)) (λ here. omega (arith, here.1)) (get_or-set_cases counts page p count 0))
 
-used-by-event : (s : State) (what : What) → UsedBy s.entries s.last_used → UsedBy (s.entries + 1) (last_used_after s what)
+used-by-event : (s : State) (what : What) → UsedBy s.entries s.last_used →
+    UsedBy (s.entries + 1) (last_used_after s what)
 used-by-event s what by = by_event what
   where
     longer : UsedBy (s.entries + 1) s.last_used
@@ -102,7 +106,8 @@ used-by-event s what by = by_event what
     by_event (Full frame) = longer
     by_event Stop = longer
 
-used-by-through : (entries : List Entry) (s : State) → UsedBy s.entries s.last_used → UsedBy (fold state_after s entries).entries (fold state_after s entries).last_used
+used-by-through : (entries : List Entry) (s : State) → UsedBy s.entries s.last_used →
+    UsedBy (fold state_after s entries).entries (fold state_after s entries).last_used
 used-by-through [] s by = by
 used-by-through (e ∷ entries) s by = used-by-through entries (state_after s e) (used-by-event s e.what by)
 
@@ -116,7 +121,8 @@ pub last_used-entries : (layout : Layout) (journal : List Entry) (page : ℕ) �
 last_used-entries layout journal page = used-by-through journal (initial_state layout) (used-by-none layout.pages) page
 
 -- each use comes before the next entry
-pub used-later : (layout : Layout) (journal : List Entry) (table : PageRecords) → ArePagesOf layout (state_of layout journal) table →
+pub used-later : (layout : Layout) (journal : List Entry) (table : PageRecords) →
+    ArePagesOf layout (state_of layout journal) table →
     (page : ℕ) → (record_at table.records page).last_used < (state_of layout journal).entries + 1
 used-later layout journal table are page =
     omega (arith, last_used-at layout (state_of layout journal) table are page, last_used-entries layout journal page)
@@ -130,7 +136,8 @@ one-either false b apart = let e : 0 + one b ≡ one b = omega arith in sym e
 
 held-split : (records : List PageRecord) →
     ((page : ℕ) → (record_at records page).resident ≡ true → is_some (record_at records page).loader ≡ true → ⊥) →
-    count_by is_record_held records ≡ count_by (λ b. b) (map resident_of records) + count_by is_some (map loader_number records)
+    count_by is_record_held records ≡ count_by (λ b. b) (map resident_of records) + count_by is_some
+        (map loader_number records)
 held-split [] apart = refl
 held-split (r ∷ records) apart =
     let rest = held-split records (λ page. apart (suc page)) in
@@ -145,6 +152,7 @@ pub held-count : (layout : Layout) (s : State) (table : PageRecords) → IsSound
     count_by is_record_held table.records ≡ held_count s
 held-count layout s table sound are =
     held-split table.records (λ page resident loading.
-    sound.apart page (sym (resident-at layout s table are page) ∙ resident) (sym (loading-at layout s table are page) ∙ loading))
+    sound.apart page (sym (resident-at layout s table are page) ∙ resident)
+        (sym (loading-at layout s table are page) ∙ loading))
     ∙ (ap (λ flags. count_by (λ b. b) flags + count_by is_some (map loader_number table.records)) are.resident
     ∙ ap (λ makers. count_by (λ b. b) s.resident + count_by is_some makers) are.loading)

@@ -90,7 +90,8 @@ dependents-added layout s t page p bounds no_root below others absent held =
     ap (λ b. one (b && is_upper layout p page)) absent in
     let after : one (is_held t page && is_upper layout p page) ≡ one (is_upper layout p page) =
     ap (λ b. one (b && is_upper layout p page)) held in
-    omega (arith, dependents-changed layout s t page p no_root below others, before, after, times-upper layout page p bounds below)
+    omega (arith, dependents-changed layout s t page p no_root below others, before, after, times-upper layout page p
+        bounds below)
 
 pub dependents-removed : (layout : Layout) (s t : State) (page p : ℕ) → InBounds layout → layout.roots ≤ page →
     page < layout.pages → ((q : ℕ) → q ≢ page → is_held t q ≡ is_held s q) → is_held s page ≡ true →
@@ -100,7 +101,8 @@ dependents-removed layout s t page p bounds no_root below others held absent =
     ap (λ b. one (b && is_upper layout p page)) held in
     let after : one (is_held t page && is_upper layout p page) ≡ 0 =
     ap (λ b. one (b && is_upper layout p page)) absent in
-    omega (arith, dependents-changed layout s t page p no_root below others, before, after, times-upper layout page p bounds below)
+    omega (arith, dependents-changed layout s t page p no_root below others, before, after, times-upper layout page p
+        bounds below)
 
 pub dependents-same : (layout : Layout) (s t : State) (p : ℕ) → ((q : ℕ) → is_held t q ≡ is_held s q) →
     dependent_count layout t p ≡ dependent_count layout s p
@@ -118,7 +120,8 @@ pub ArePagesOf-kept : (layout : Layout) (s : State) (page : ℕ) (r : PageRecord
 ArePagesOf-kept layout s page r old are resident loader last_used dependents = record {
   roots = are.roots;
   resident = map-set_same resident_of old.records page r no_record resident ∙ are.resident;
-  loading = map-set_same loader_number old.records page r no_record (ap (option_map (λ (m : MakerId). m.0)) loader) ∙ are.loading;
+  loading = map-set_same loader_number old.records page r no_record (ap (option_map (λ (m : MakerId). m.0)) loader)
+      ∙ are.loading;
   last_used = map-set_same used_of old.records page r no_record last_used ∙ are.last_used;
   dependents = λ p. field-kept (λ r. r.dependents) old.records page r p dependents ∙ are.dependents p;
 }

@@ -23,7 +23,8 @@ upper-page : (uppers : List (List ℕ)) (upper page : ℕ) → is_among (get_or 
 upper-page uppers upper page h = place-within (λ (us : List ℕ). is_among us upper) uppers page [] refl h
 
 -- an upper is below its page
-pub upper-below : (layout : Layout) (upper page : ℕ) → InBounds layout → is_upper layout upper page ≡ true → upper < page
+pub upper-below : (layout : Layout) (upper page : ℕ) → InBounds layout → is_upper layout upper page ≡ true →
+    upper < page
 upper-below layout upper page bounds h =
     let fit = bounds.uppers page (upper-page layout.uppers upper page h) in
     (Decides-ltb upper page).0 (all-at_any (λ u. nat_lt u page) (uppers_of layout page) upper fit.1 h)
@@ -31,7 +32,8 @@ upper-below layout upper page bounds h =
 -- no root page depends on a page that is no root page
 no-dependent : (layout : Layout) (page q : ℕ) → InBounds layout → layout.roots ≤ page → q < layout.roots →
     (b : Bool) → is_upper layout page q ≡ b → is_upper layout page q ≡ false
-no-dependent layout page q bounds no_root root true h = absurd (omega (arith, upper-below layout page q bounds h, no_root, root))
+no-dependent layout page q bounds no_root root true h =
+    absurd (omega (arith, upper-below layout page q bounds h, no_root, root))
 no-dependent layout page q bounds no_root root false h = h
 
 -- a page has no dependents where nothing depends on it
@@ -61,7 +63,8 @@ same-tests true false p d sn u pinned stood pins depends = refl
 same-tests true true p d sn u pinned stood pins depends =
     rw (pins refl, depends refl) (by_cases p sn stood u)
   where
-    by_cases : (p sn stood u : Bool) → ((p && (not stood && not sn)) && not u) ≡ (not (not p || sn) && (not stood && not u))
+    by_cases : (p sn stood u : Bool) → ((p && (not stood && not sn)) && not u)
+        ≡ (not (not p || sn) && (not stood && not u))
     by_cases false sn stood u = refl
     by_cases true true true u = refl
     by_cases true true false u = refl
@@ -102,7 +105,8 @@ evictable-page layout s page lists q h =
     omega (arith, place-within (λ (b : Bool). b) s.resident q false refl resident, lists.flag_a_page)
 
 -- what `first_evictable` answers
-pub victim_for-first_evictable : (layout : Layout) (s : State) (table : PageRecords) (page : ℕ) (snapshot : Option ℕ) (found : Option ℕ) →
+pub victim_for-first_evictable : (layout : Layout) (s : State) (table : PageRecords) (page : ℕ) (snapshot : Option ℕ)
+    (found : Option ℕ) →
     InBounds layout → HasItemAPage layout s → ArePagesOf layout s table → ArePinsOf s snapshot table.records →
     IsFirst (λ p. (record_at table.records p).last_used) (may_be_evicted table snapshot (uppers_of layout page)) found →
     victim_for layout s page ≡ found
