@@ -38,13 +38,15 @@ pub among_none : is_among [] 0 ≡ false
 among_none = refl
 
 -- a Settle and an Ask replace the wants of their own frame
-pub replaces_own : map (λ what. replaces_wants what 3) of_frame ≡ false ∷ true ∷ true ∷ false ∷ false ∷ false ∷ false ∷ []
+pub replaces_own : map (λ what. replaces_wants what 3) of_frame
+    ≡ false ∷ true ∷ true ∷ false ∷ false ∷ false ∷ false ∷ []
 replaces_own = refl
 
 pub replaces_other : map (λ what. replaces_wants what 2) (Stop ∷ of_frame ++ ends) ≡ replicate 12 false
 replaces_other = refl
 
-pub stop_alone : map has_stop ([] ∷ (entry 2 (Pin 3) ∷ []) ∷ (entry 2 (Pin 3) ∷ entry 2 Stop ∷ entry 2 (Pin 3) ∷ []) ∷ []) ≡ false ∷ false ∷ true ∷ []
+pub stop_alone : map has_stop ([] ∷ (entry 2 (Pin 3) ∷ []) ∷ (entry 2 (Pin 3) ∷ entry 2 Stop ∷ entry 2 (Pin 3) ∷ [])
+    ∷ []) ≡ false ∷ false ∷ true ∷ []
 stop_alone = refl
 
 pub stop_no_other : map is_stop (of_frame ++ ends) ≡ replicate 11 false
@@ -57,7 +59,9 @@ page_failed_each = refl
 pub page_failed_others : map page_failed (Stop ∷ of_frame) ≡ replicate 8 None
 page_failed_others = refl
 
-pub failed_each : map (λ page. has_failed page (entry 2 (Install 4 digest) ∷ entry 2 (Starve 2) ∷ entry 0 (Fail 3 0 1) ∷ [])) (2 ∷ 3 ∷ 4 ∷ []) ≡ true ∷ true ∷ false ∷ []
+pub failed_each : map (λ page. has_failed page
+    (entry 2 (Install 4 digest) ∷ entry 2 (Starve 2) ∷ entry 0 (Fail 3 0 1) ∷ [])) (2 ∷ 3 ∷ 4 ∷ [])
+    ≡ true ∷ true ∷ false ∷ []
 failed_each = refl
 
 -- a Take and a Full change nothing for their frame
@@ -73,5 +77,6 @@ full_own = refl
 pub full_other : map (λ what. is_full_of what 2) (Stop ∷ of_frame ++ ends) ≡ replicate 12 false
 full_other = refl
 
-pub full_each : map (λ frame. has_full frame (entry 2 (Pin 3) ∷ entry 2 (Full 2) ∷ entry 2 (Pin 3) ∷ [])) (2 ∷ 3 ∷ []) ≡ true ∷ false ∷ []
+pub full_each : map (λ frame. has_full frame (entry 2 (Pin 3) ∷ entry 2 (Full 2) ∷ entry 2 (Pin 3) ∷ [])) (2 ∷ 3 ∷ [])
+    ≡ true ∷ false ∷ []
 full_each = refl

@@ -29,7 +29,8 @@ asked_shared = entry 0 (Pin 0) ∷ entry 0 (Settle 0 (0 ∷ []) (1 ∷ 2 ∷ [])
 
 abbrev loaded_shared : List Entry
 loaded_shared =
-    asked_shared ++ entry 0 (Take (Some 0) 1 None) ∷ entry 0 (Install 1 digest) ∷ entry 0 (Take (Some 0) 2 None) ∷ entry 0 (Install 2 digest) ∷ []
+    asked_shared ++ entry 0 (Take (Some 0) 1 None) ∷ entry 0 (Install 1 digest) ∷ entry 0 (Take (Some 0) 2 None) ∷ entry
+    0 (Install 2 digest) ∷ []
 
 -- each page after its uppers: legal
 pub shared_in_order : first_refused shared loaded_shared ≡ None
@@ -41,7 +42,13 @@ shared_too_soon = refl
 
 -- Six pages and five slots, so that the last page is taken for a victim.
 abbrev crowded : Layout
-crowded = record { pages = 6; roots = 1; slots = 5; uppers = [] ∷ (0 ∷ []) ∷ (0 ∷ 1 ∷ []) ∷ (0 ∷ []) ∷ (0 ∷ []) ∷ (0 ∷ []) ∷ [] }
+crowded = record {
+  pages = 6;
+  roots = 1;
+  slots = 5;
+  uppers =
+      [] ∷ (0 ∷ []) ∷ (0 ∷ 1 ∷ []) ∷ (0 ∷ []) ∷ (0 ∷ []) ∷ (0 ∷ []) ∷ [];
+}
 
 -- the load of a page by maker 0 for frame 0
 abbrev pub load : ℕ → List Entry
@@ -98,7 +105,8 @@ flat = record { pages = 4; roots = 1; slots = 3; uppers = [] ∷ [] ∷ [] ∷ [
 
 abbrev loading_both : List Entry
 loading_both =
-    entry 0 (Pin 0) ∷ entry 0 (Settle 0 (0 ∷ []) (1 ∷ 2 ∷ [])) ∷ entry 0 (Take (Some 0) 1 None) ∷ entry 0 (Take (Some 0) 2 None) ∷ []
+    entry 0 (Pin 0) ∷ entry 0 (Settle 0 (0 ∷ []) (1 ∷ 2 ∷ [])) ∷ entry 0 (Take (Some 0) 1 None) ∷ entry 0
+    (Take (Some 0) 2 None) ∷ []
 
 -- of two wants whose pages are being loaded the first is reported
 pub next_busy_first : next_after flat loading_both (Some 0) ≡ Next.Busy 1
@@ -118,7 +126,9 @@ resident_first = refl
 
 -- a page can be taken that is neither resident nor being loaded, and whose uppers are resident: not page 2,
 -- while page 1 is being loaded
-pub take_apart : map (λ journal. map (can_take shared (state_of shared journal)) (0 ∷ 1 ∷ 2 ∷ [])) (asked_shared ∷ loading_shared ∷ loaded_shared ∷ []) ≡ (false ∷ true ∷ false ∷ []) ∷ (false ∷ false ∷ false ∷ []) ∷ (false ∷ false ∷ false ∷ []) ∷ []
+pub take_apart : map (λ journal. map (can_take shared (state_of shared journal)) (0 ∷ 1 ∷ 2 ∷ []))
+    (asked_shared ∷ loading_shared ∷ loaded_shared ∷ [])
+    ≡ (false ∷ true ∷ false ∷ []) ∷ (false ∷ false ∷ false ∷ []) ∷ (false ∷ false ∷ false ∷ []) ∷ []
 take_apart = refl
 
 -- the victim's slot is the loading page's
@@ -148,11 +158,13 @@ pub ask_queues : wants_then [] ≡ want 0 2 true ∷ want 1 1 false ∷ want 1 2
 ask_queues = refl
 
 -- a Settle takes the place of all that its frame wanted, and stands behind the others
-pub settle_replaces : wants_then (entry 0 (Settle 0 (0 ∷ []) (1 ∷ [])) ∷ []) ≡ want 1 1 false ∷ want 1 2 false ∷ want 0 1 true ∷ []
+pub settle_replaces : wants_then (entry 0 (Settle 0 (0 ∷ []) (1 ∷ [])) ∷ [])
+    ≡ want 1 1 false ∷ want 1 2 false ∷ want 0 1 true ∷ []
 settle_replaces = refl
 
 -- what an ended frame wanted stays
-pub ended_stays : wants_then (entry 1 (Unpin 1) ∷ entry 0 (Narrow 0 (0 ∷ [])) ∷ []) ≡ want 0 2 true ∷ want 1 1 false ∷ want 1 2 false ∷ []
+pub ended_stays : wants_then (entry 1 (Unpin 1) ∷ entry 0 (Narrow 0 (0 ∷ [])) ∷ [])
+    ≡ want 0 2 true ∷ want 1 1 false ∷ want 1 2 false ∷ []
 ended_stays = refl
 
 -- until some frame settles or asks
@@ -160,7 +172,8 @@ pub ended_goes : wants_then (entry 1 (Unpin 1) ∷ entry 0 (Ask 0 (1 ∷ [])) �
 ended_goes = refl
 
 -- no other event than an end of a load, a Settle or an Ask changes the wants
-pub others_keep : map (λ what. wants_then (entry 0 what ∷ [])) (Pin 0 ∷ Narrow 0 [] ∷ Unpin 0 ∷ Take None 1 None ∷ Full 0 ∷ Stop ∷ []) ≡ replicate 6 (wants_then [])
+pub others_keep : map (λ what. wants_then (entry 0 what ∷ []))
+    (Pin 0 ∷ Narrow 0 [] ∷ Unpin 0 ∷ Take None 1 None ∷ Full 0 ∷ Stop ∷ []) ≡ replicate 6 (wants_then [])
 others_keep = refl
 
 -- page 2 has to wait for its upper 1: a loader for all takes that, one for frame 0 has nothing to do
@@ -191,11 +204,15 @@ pub loading_maker : (state_of flat loading_1).loading ≡ None ∷ Some 2 ∷ No
 loading_maker = refl
 
 -- an Install adds the page to the pins of frame 0 alone
-pub install_pins : map (λ f. f.pins) (ended_by (Install 1 digest)).frames ≡ (true ∷ true ∷ false ∷ false ∷ []) ∷ (true ∷ false ∷ false ∷ false ∷ []) ∷ []
+pub install_pins : map (λ f. f.pins) (ended_by (Install 1 digest)).frames
+    ≡ (true ∷ true ∷ false ∷ false ∷ []) ∷ (true ∷ false ∷ false ∷ false ∷ []) ∷ []
 install_pins = refl
 
 -- nor is it added where the frame waits for another page
-pub install_pins_none : map (λ f. f.pins) (state_of flat (entry 0 (Pin 0) ∷ entry 0 (Settle 0 (0 ∷ []) (2 ∷ [])) ∷ entry 1 (Pin 1) ∷ entry 1 (Ask 1 (1 ∷ [])) ∷ entry 1 (Take (Some 1) 1 None) ∷ entry 1 (Install 1 digest) ∷ [])).frames ≡ replicate 2 (true ∷ false ∷ false ∷ false ∷ [])
+pub install_pins_none : map (λ f. f.pins)
+    (state_of flat (entry 0 (Pin 0) ∷ entry 0 (Settle 0 (0 ∷ []) (2 ∷ [])) ∷ entry 1 (Pin 1) ∷ entry 1 (Ask 1 (1 ∷ []))
+    ∷ entry 1 (Take (Some 1) 1 None) ∷ entry 1 (Install 1 digest) ∷ [])).frames
+    ≡ replicate 2 (true ∷ false ∷ false ∷ false ∷ [])
 install_pins_none = refl
 
 -- Ends of the load: an Install, or one of these.
@@ -210,7 +227,8 @@ ends_wants = refl
 pub ends_loading : map (λ what. is_loading (ended_by what) 1) (Install 1 digest ∷ other_ends) ≡ replicate 4 false
 ends_loading = refl
 
-pub ends_resident : map (λ what. is_resident (ended_by what) 1) (Install 1 digest ∷ other_ends) ≡ true ∷ false ∷ false ∷ false ∷ []
+pub ends_resident : map (λ what. is_resident (ended_by what) 1) (Install 1 digest ∷ other_ends)
+    ≡ true ∷ false ∷ false ∷ false ∷ []
 ends_resident = refl
 
 -- what the frames pin after these entries
@@ -226,21 +244,25 @@ pub pin_then : pins_after asked_1 ≡ (true ∷ false ∷ false ∷ false ∷ []
 pin_then = refl
 
 -- a live frame that pins again stands where it stood
-pub pin_anew : pins_after (asked_1 ++ entry 1 (Pin 1) ∷ entry 1 (Narrow 1 []) ∷ entry 0 (Pin 0) ∷ []) ≡ (true ∷ true ∷ false ∷ false ∷ []) ∷ (false ∷ false ∷ false ∷ false ∷ []) ∷ []
+pub pin_anew : pins_after (asked_1 ++ entry 1 (Pin 1) ∷ entry 1 (Narrow 1 []) ∷ entry 0 (Pin 0) ∷ [])
+    ≡ (true ∷ true ∷ false ∷ false ∷ []) ∷ (false ∷ false ∷ false ∷ false ∷ []) ∷ []
 pin_anew = refl
 
 -- Settle and Narrow leave their pages alone pinned, and Unpin none
-pub settle_pins : pins_after (asked_1 ++ entry 0 (Settle 0 (1 ∷ []) (2 ∷ [])) ∷ []) ≡ (false ∷ true ∷ false ∷ false ∷ []) ∷ []
+pub settle_pins : pins_after (asked_1 ++ entry 0 (Settle 0 (1 ∷ []) (2 ∷ [])) ∷ [])
+    ≡ (false ∷ true ∷ false ∷ false ∷ []) ∷ []
 settle_pins = refl
 
-pub narrow_pins : pins_after (asked_1 ++ entry 0 (Pin 0) ∷ entry 0 (Narrow 0 (1 ∷ [])) ∷ []) ≡ (false ∷ true ∷ false ∷ false ∷ []) ∷ []
+pub narrow_pins : pins_after (asked_1 ++ entry 0 (Pin 0) ∷ entry 0 (Narrow 0 (1 ∷ [])) ∷ [])
+    ≡ (false ∷ true ∷ false ∷ false ∷ []) ∷ []
 narrow_pins = refl
 
 pub unpin_pins : pins_after (asked_1 ++ entry 0 (Unpin 0) ∷ []) ≡ []
 unpin_pins = refl
 
 -- the Unpin of one frame leaves the other
-pub unpin_other : pins_after (asked_1 ++ entry 1 (Pin 1) ∷ entry 0 (Unpin 0) ∷ []) ≡ (true ∷ true ∷ false ∷ false ∷ []) ∷ []
+pub unpin_other : pins_after (asked_1 ++ entry 1 (Pin 1) ∷ entry 0 (Unpin 0) ∷ [])
+    ≡ (true ∷ true ∷ false ∷ false ∷ []) ∷ []
 unpin_other = refl
 
 -- Which page is evicted: pages 1 and 2 came in this order, were used again by these entries, and nobody pins them.
@@ -253,7 +275,9 @@ pub last_used_installed : (state_of flat (idle [])).last_used ≡ 2 ∷ 4 ∷ 6 
 last_used_installed = refl
 
 -- Settle uses its pages and not its missing ones, and no other event uses a page
-pub last_used_otherwise : map (λ what. (state_of flat (idle (entry 0 what ∷ []))).last_used) (Settle 0 (1 ∷ []) (3 ∷ []) ∷ Pin 0 ∷ Ask 0 (3 ∷ []) ∷ Take None 3 (Some 1) ∷ Starve 1 ∷ Full 0 ∷ Stop ∷ []) ≡ (2 ∷ 7 ∷ 6 ∷ 0 ∷ []) ∷ replicate 6 (2 ∷ 4 ∷ 6 ∷ 0 ∷ [])
+pub last_used_otherwise : map (λ what. (state_of flat (idle (entry 0 what ∷ []))).last_used)
+    (Settle 0 (1 ∷ []) (3 ∷ []) ∷ Pin 0 ∷ Ask 0 (3 ∷ []) ∷ Take None 3 (Some 1) ∷ Starve 1 ∷ Full 0 ∷ Stop ∷ [])
+    ≡ (2 ∷ 7 ∷ 6 ∷ 0 ∷ []) ∷ replicate 6 (2 ∷ 4 ∷ 6 ∷ 0 ∷ [])
 last_used_otherwise = refl
 
 -- page 1 was used first

@@ -29,7 +29,8 @@ length-resident_after (Starve page) resident = refl
 length-resident_after (Full frame) resident = refl
 length-resident_after Stop resident = refl
 
-length-loading_after : (by : ℕ) (what : What) (loading : List (Option ℕ)) → length (loading_after by what loading) ≡ length loading
+length-loading_after : (by : ℕ) (what : What) (loading : List (Option ℕ)) →
+    length (loading_after by what loading) ≡ length loading
 length-loading_after by (Pin frame) loading = refl
 length-loading_after by (Settle frame pages missing) loading = refl
 length-loading_after by (Ask frame pages) loading = refl
@@ -49,13 +50,15 @@ HasItemAPage-opening layout = record {
   maker_a_page = length-replicate layout.pages None;
 }
 
-pub HasItemAPage-after : (layout : Layout) (s : State) (e : Entry) → HasItemAPage layout s → HasItemAPage layout (state_after s e)
+pub HasItemAPage-after : (layout : Layout) (s : State) (e : Entry) → HasItemAPage layout s →
+    HasItemAPage layout (state_after s e)
 HasItemAPage-after layout s e lists = record {
   flag_a_page = length-resident_after e.what s.resident ∙ lists.flag_a_page;
   maker_a_page = length-loading_after e.by e.what s.loading ∙ lists.maker_a_page;
 }
 
-through : (layout : Layout) (journal : List Entry) (s : State) → HasItemAPage layout s → HasItemAPage layout (fold state_after s journal)
+through : (layout : Layout) (journal : List Entry) (s : State) → HasItemAPage layout s →
+    HasItemAPage layout (fold state_after s journal)
 through layout [] s lists = lists
 through layout (e ∷ journal) s lists = through layout journal (state_after s e) (HasItemAPage-after layout s e lists)
 

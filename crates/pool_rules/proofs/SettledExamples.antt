@@ -17,22 +17,27 @@ use Rattle.pool_rules.specs.State.{residency}
 -- The last Settle: frame 0 settles twice, then frame 1 does.
 abbrev twice : List Entry
 twice =
-    entry 0 (Pin 0) ∷ entry 1 (Pin 1) ∷ entry 0 (Settle 0 (0 ∷ []) (1 ∷ 2 ∷ [])) ∷ entry 0 (Settle 0 [] (3 ∷ [])) ∷ entry 1 (Settle 1 (0 ∷ []) (2 ∷ [])) ∷ entry 0 Stop ∷ []
+    entry 0 (Pin 0) ∷ entry 1 (Pin 1) ∷ entry 0 (Settle 0 (0 ∷ []) (1 ∷ 2 ∷ [])) ∷ entry 0 (Settle 0 [] (3 ∷ []))
+    ∷ entry 1 (Settle 1 (0 ∷ []) (2 ∷ [])) ∷ entry 0 Stop ∷ []
 
-pub last_of_two : last_settle 0 twice ≡ Some (record { pages = []; missing = 3 ∷ []; after = entry 1 (Settle 1 (0 ∷ []) (2 ∷ [])) ∷ entry 0 Stop ∷ [] })
+pub last_of_two : last_settle 0 twice ≡ Some
+    (record { pages = []; missing = 3 ∷ []; after = entry 1 (Settle 1 (0 ∷ []) (2 ∷ [])) ∷ entry 0 Stop ∷ [] })
 last_of_two = refl
 
 pub last_of_other : last_settle 1 twice ≡ Some (record { pages = 0 ∷ []; missing = 2 ∷ []; after = entry 0 Stop ∷ [] })
 last_of_other = refl
 
-pub last_of_none : map (λ frame. last_settle frame (entry 0 (Pin 0) ∷ entry 0 (Ask 0 (1 ∷ [])) ∷ entry 0 (Settle 1 [] []) ∷ [])) (0 ∷ 2 ∷ []) ≡ None ∷ None ∷ []
+pub last_of_none : map (λ frame. last_settle frame
+    (entry 0 (Pin 0) ∷ entry 0 (Ask 0 (1 ∷ [])) ∷ entry 0 (Settle 1 [] []) ∷ [])) (0 ∷ 2 ∷ []) ≡ None ∷ None ∷ []
 last_of_none = refl
 
 -- a frame is left alone by what is of other frames, and by what takes and loads its pages
-pub alone_by : map (λ what. is_left_alone 3 (entry 0 (Pin 2) ∷ entry 3 what ∷ [])) (Pin 3 ∷ Settle 3 [] [] ∷ Ask 3 [] ∷ Narrow 3 [] ∷ Unpin 3 ∷ []) ≡ false ∷ false ∷ false ∷ false ∷ false ∷ []
+pub alone_by : map (λ what. is_left_alone 3 (entry 0 (Pin 2) ∷ entry 3 what ∷ []))
+    (Pin 3 ∷ Settle 3 [] [] ∷ Ask 3 [] ∷ Narrow 3 [] ∷ Unpin 3 ∷ []) ≡ false ∷ false ∷ false ∷ false ∷ false ∷ []
 alone_by = refl
 
-pub alone_beside : is_left_alone 3 (entry 0 (Take (Some 3) 1 None) ∷ entry 0 (Full 3) ∷ entry 0 (Install 3 digest) ∷ entry 0 (Settle 2 (3 ∷ []) (3 ∷ [])) ∷ entry 0 Stop ∷ []) ≡ true
+pub alone_beside : is_left_alone 3 (entry 0 (Take (Some 3) 1 None) ∷ entry 0 (Full 3) ∷ entry 0 (Install 3 digest)
+    ∷ entry 0 (Settle 2 (3 ∷ []) (3 ∷ [])) ∷ entry 0 Stop ∷ []) ≡ true
 alone_beside = refl
 
 -- Each page stands on the one below it.
@@ -52,10 +57,12 @@ pub needs_beyond : map (needs flat 9) (0 ∷ 9 ∷ []) ≡ false ∷ true ∷ []
 needs_beyond = refl
 
 -- the uppers of the missing pages 2 and 3 are 1 and 2
-pub listed_each : map (λ pages. lists_uppers chain pages (2 ∷ 3 ∷ [])) ((1 ∷ []) ∷ (2 ∷ []) ∷ (0 ∷ []) ∷ []) ≡ true ∷ false ∷ false ∷ []
+pub listed_each : map (λ pages. lists_uppers chain pages (2 ∷ 3 ∷ [])) ((1 ∷ []) ∷ (2 ∷ []) ∷ (0 ∷ []) ∷ [])
+    ≡ true ∷ false ∷ false ∷ []
 listed_each = refl
 
-pub listed_all : map (lists_uppers chain (0 ∷ [])) ([] ∷ (1 ∷ []) ∷ (1 ∷ 2 ∷ 3 ∷ []) ∷ (1 ∷ 3 ∷ []) ∷ []) ≡ true ∷ true ∷ true ∷ false ∷ []
+pub listed_all : map (lists_uppers chain (0 ∷ [])) ([] ∷ (1 ∷ []) ∷ (1 ∷ 2 ∷ 3 ∷ []) ∷ (1 ∷ 3 ∷ []) ∷ [])
+    ≡ true ∷ true ∷ true ∷ false ∷ []
 listed_all = refl
 
 -- Frame 0 waits for the pages 1 to 3 of the chain.
@@ -82,7 +89,8 @@ absent_after_fail = refl
 pub failed_alone : map (λ page. has_failed page failed_1) (1 ∷ 2 ∷ []) ≡ true ∷ false ∷ []
 failed_alone = refl
 
-pub failed_needs : map (has_failed_need chain (1 ∷ 2 ∷ 3 ∷ []) failed_1) (0 ∷ 1 ∷ 2 ∷ 3 ∷ []) ≡ false ∷ true ∷ true ∷ true ∷ []
+pub failed_needs : map (has_failed_need chain (1 ∷ 2 ∷ 3 ∷ []) failed_1) (0 ∷ 1 ∷ 2 ∷ 3 ∷ [])
+    ≡ false ∷ true ∷ true ∷ true ∷ []
 failed_needs = refl
 
 -- but not where the page that failed is not missed
@@ -90,7 +98,9 @@ pub failed_not_missed : has_failed_need chain (2 ∷ 3 ∷ []) failed_1 2 ≡ fa
 failed_not_missed = refl
 
 -- each load that ends without its page counts, and no Install and no failure of a page that is not needed
-pub failed_by : map (λ what. has_failed_need chain (1 ∷ 2 ∷ []) (entry 5 what ∷ []) 2) (Fail 1 0 1 ∷ Spoil 1 (Short 9) ∷ Starve 2 ∷ Install 1 digest ∷ Fail 3 0 1 ∷ Take None 1 None ∷ []) ≡ true ∷ true ∷ true ∷ false ∷ false ∷ false ∷ []
+pub failed_by : map (λ what. has_failed_need chain (1 ∷ 2 ∷ []) (entry 5 what ∷ []) 2)
+    (Fail 1 0 1 ∷ Spoil 1 (Short 9) ∷ Starve 2 ∷ Install 1 digest ∷ Fail 3 0 1 ∷ Take None 1 None ∷ [])
+    ≡ true ∷ true ∷ true ∷ false ∷ false ∷ false ∷ []
 failed_by = refl
 
 -- An Ask after the Settle replaces the frame's wants: nothing is left, and no load failed.
@@ -119,7 +129,8 @@ unlisted_nothing = refl
 pub unlisted_legal : first_refused shared queued ≡ None
 unlisted_legal = refl
 
-pub unlisted : option_map (λ settle. lists_uppers shared settle.pages settle.missing) (last_settle 0 queued) ≡ Some false
+pub unlisted : option_map (λ settle. lists_uppers shared settle.pages settle.missing) (last_settle 0 queued)
+    ≡ Some false
 unlisted = refl
 
 -- Records: the frame looks again after these entries, then others follow.
@@ -132,11 +143,13 @@ pub settled_all_came : looks_again (load 1 ++ load 2 ++ load 3) [] [] ≡ true
 settled_all_came = refl
 
 -- the page itself failed, or one that it needs
-pub settled_failed : map (λ missing. looks_again (load 1 ++ ending 2 (Starve 2)) [] missing) ((2 ∷ 3 ∷ []) ∷ (3 ∷ []) ∷ (1 ∷ 2 ∷ []) ∷ []) ≡ true ∷ true ∷ false ∷ []
+pub settled_failed : map (λ missing. looks_again (load 1 ++ ending 2 (Starve 2)) [] missing)
+    ((2 ∷ 3 ∷ []) ∷ (3 ∷ []) ∷ (1 ∷ 2 ∷ []) ∷ []) ≡ true ∷ true ∷ false ∷ []
 settled_failed = refl
 
 -- the pool was full
-pub settled_full : map (λ frame. looks_again (entry 0 (Full frame) ∷ []) [] (1 ∷ 2 ∷ 3 ∷ [])) (0 ∷ 1 ∷ []) ≡ true ∷ false ∷ []
+pub settled_full : map (λ frame. looks_again (entry 0 (Full frame) ∷ []) [] (1 ∷ 2 ∷ 3 ∷ [])) (0 ∷ 1 ∷ [])
+    ≡ true ∷ false ∷ []
 settled_full = refl
 
 -- no load has failed yet
@@ -144,15 +157,18 @@ pub unsettled : looks_again (entry 0 (Take (Some 0) 1 None) ∷ []) [] (1 ∷ 2 
 unsettled = refl
 
 -- a load that fails later, or a pool that is full later, is too late
-pub settled_late : map (λ what. looks_again [] (entry 0 what ∷ []) (1 ∷ [])) (Starve 1 ∷ Full 0 ∷ []) ≡ false ∷ false ∷ []
+pub settled_late : map (λ what. looks_again [] (entry 0 what ∷ []) (1 ∷ [])) (Starve 1 ∷ Full 0 ∷ [])
+    ≡ false ∷ false ∷ []
 settled_late = refl
 
 -- one that failed before the Settle is too early
-pub settled_early : is_settled chain (entry 0 (Pin 0) ∷ entry 0 (Starve 1) ∷ entry 0 (Full 0) ∷ entry 0 (Settle 0 (0 ∷ []) (1 ∷ [])) ∷ entry 0 (Pin 0) ∷ []) 0 5 (1 ∷ []) ≡ false
+pub settled_early : is_settled chain (entry 0 (Pin 0) ∷ entry 0 (Starve 1) ∷ entry 0 (Full 0) ∷ entry 0
+    (Settle 0 (0 ∷ []) (1 ∷ [])) ∷ entry 0 (Pin 0) ∷ []) 0 5 (1 ∷ []) ≡ false
 settled_early = refl
 
 -- the frame settles once more after the record, or never did before
-pub settled_again : map (λ frame. looks_again (load 1 ++ load 2 ++ load 3) (entry 0 (Settle frame [] []) ∷ []) []) (0 ∷ 1 ∷ []) ≡ false ∷ true ∷ []
+pub settled_again : map (λ frame. looks_again (load 1 ++ load 2 ++ load 3) (entry 0 (Settle frame [] []) ∷ []) [])
+    (0 ∷ 1 ∷ []) ≡ false ∷ true ∷ []
 settled_again = refl
 
 pub settled_never : is_settled chain (entry 0 (Pin 0) ∷ entry 0 (Ask 0 []) ∷ entry 0 (Pin 0) ∷ []) 0 3 [] ≡ false

@@ -18,7 +18,8 @@ or-nothing true = refl
 or-nothing false = refl
 
 -- a Stop first, or one later
-or-later : (before now : Bool) (later state : Bool) → state ≡ (before || now) → (state || later) ≡ (before || (now || later))
+or-later : (before now : Bool) (later state : Bool) → state ≡ (before || now) →
+    (state || later) ≡ (before || (now || later))
 or-later true now later true h = refl
 or-later true now later false h = cc
 or-later false true later true h = refl
@@ -26,10 +27,12 @@ or-later false true later false h = cc
 or-later false false later true h = cc
 or-later false false later false h = refl
 
-stopped-from : (journal : List Entry) (s : State) → (fold state_after s journal).stopped ≡ (s.stopped || has_stop journal)
+stopped-from : (journal : List Entry) (s : State) →
+    (fold state_after s journal).stopped ≡ (s.stopped || has_stop journal)
 stopped-from [] s = sym (or-nothing s.stopped)
 stopped-from (e ∷ journal) s =
-    stopped-from journal (state_after s e) ∙ or-later s.stopped (is_stop e.what) (has_stop journal) (stopped_after e.what s.stopped) (stopped_after-stop e.what s.stopped)
+    stopped-from journal (state_after s e) ∙ or-later s.stopped (is_stop e.what) (has_stop journal)
+    (stopped_after e.what s.stopped) (stopped_after-stop e.what s.stopped)
 
 pub stopped-has_stop : (layout : Layout) (journal : List Entry) → (state_of layout journal).stopped ≡ has_stop journal
 stopped-has_stop layout journal = stopped-from journal (initial_state layout)
