@@ -42,7 +42,7 @@ pub record HasSettled (layout : Layout) (journal : List Entry) (frame : ℕ) (se
 abbrev pub lists_uppers : Layout → List ℕ → List ℕ → Bool
 lists_uppers layout pages missing =
     list_all (λ page.
-        list_all (λ upper. is_among pages upper || is_among missing upper) (uppers_of layout page)) missing
+    list_all (λ upper. is_among pages upper || is_among missing upper) (uppers_of layout page)) missing
 
 -- whether q is the page, or is reached from it by at most so many steps from a page to one of its uppers
 abbrev pub needs_within : Layout → ℕ → ℕ → ℕ → Bool

@@ -84,7 +84,7 @@ length-without number [] h = omega arith
 length-without number (n ∷ numbers) h =
     ⊎_elim
     (λ same. let lacks : Lacks numbers number = subst (λ m. Lacks numbers m) same h.0 in
-        rw (eq-eqb n number same, without-lacking number numbers lacks) (omega arith))
+    rw (eq-eqb n number same, without-lacking number numbers lacks) (omega arith))
     (λ ne. rw (ne-eqb n number ne) (omega (arith, length-without number numbers h.1)))
     (cases_eq n number)
 
@@ -116,5 +116,5 @@ length-apart zero (m ∷ numbers) h below = omega (arith, below.0)
 length-apart (suc n) numbers h below =
     let rest = without n numbers in
     let few = length-apart n rest (AreApart-without n numbers h)
-        (below-but_last n rest (all-without (λ m. m < suc n) n numbers below) (Lacks-without_same n numbers)) in
+    (below-but_last n rest (all-without (λ m. m < suc n) n numbers below) (Lacks-without_same n numbers)) in
     omega (arith, few, length-without n numbers h)

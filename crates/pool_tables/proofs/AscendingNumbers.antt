@@ -85,5 +85,5 @@ after-place low (n ∷ numbers) (suc k) q up within among =
     let parts = and-both (nat_le low n) (ascends_from (n + 1) numbers) up in
     let e : suc k + 1 ≡ suc (k + 1) = omega arith in
     let later : is_among (drop (k + 1) numbers) q ≡ true =
-        subst (λ m. is_among (drop m (n ∷ numbers)) q ≡ true) e among in
+    subst (λ m. is_among (drop m (n ∷ numbers)) q ≡ true) e among in
     after-place (n + 1) numbers k q parts.1 (omega (arith, within)) later

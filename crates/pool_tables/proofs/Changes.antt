@@ -8,7 +8,7 @@ use Rattle.pool_rules.specs.Numbers.{is_among}
 use Rattle.pool_rules.proofs.Tests.{or-left}
 use Rattle.pool_tables.specs.PageRecords.{PageRecords, record_at, with_record, IsUsedBefore}
 use Rattle.pool_tables.specs.declared.page_record.PageRecord.{PageRecord}
-use Rattle.pool_tables.specs.Changes.{used_if, AreUsed, times, HaveMoreDependents, HaveFewerDependents}
+use Rattle.pool_tables.specs.Changes.{used_if, AreUsed, times, AreChanged, more_dependents, fewer_dependents, more_pins, fewer_pins, HaveMoreDependents, HaveFewerDependents, HaveMorePins, HaveFewerPins}
 use Rattle.pool_tables.proofs.Apart.{ne-eqb}
 use Rattle.pool_tables.proofs.AscendingNumbers.{among-at, after-place}
 use Rattle.pool_tables.proofs.UseOrder.{record-same, record-other}
@@ -57,20 +57,20 @@ pub AreUsed-step : (count k page : ℕ) (pages : List ℕ) (old now : PageRecord
 AreUsed-step count k page pages old now within is below used =
     let r : PageRecord = record (record_at now.records page) { last_used = count } in
     let among : is_among (drop k pages) page ≡ true =
-        subst (λ p. is_among (drop k pages) p ≡ true) (sym is) (among-here pages k within) in
+    subst (λ p. is_among (drop k pages) p ≡ true) (sym is) (among-here pages k within) in
     record {
       roots = used.roots;
       len = length-set now.records page r ∙ used.len;
       records = λ p. ⊎_elim
           (λ same. subst (λ q. record_at (set now.records page r) q
-              ≡ used_if (is_among (drop k pages) q) count (record_at old.records q)) (sym same)
+          ≡ used_if (is_among (drop k pages) q) count (record_at old.records q)) (sym same)
           (record-same now.records page r below ∙ (used-again (is_among (drop (k + 1) pages) page) count
-              (record_at old.records page) (record_at now.records page) (used.records page)
-              ∙ ap (λ b. used_if b count (record_at old.records page)) (sym among))))
+          (record_at old.records page) (record_at now.records page) (used.records page)
+          ∙ ap (λ b. used_if b count (record_at old.records page)) (sym among))))
           (λ other.
           let other_too : p ≢ get_or pages k 0 = λ e. other (e ∙ sym is) in
           record-other now.records page p r other ∙ (used.records p
-              ∙ ap (λ b. used_if b count (record_at old.records p)) (sym (among-other pages k p within other_too))))
+          ∙ ap (λ b. used_if b count (record_at old.records p)) (sym (among-other pages k p within other_too))))
           (cases_eq p page);
     }
 
@@ -80,8 +80,8 @@ pub resident-step : (count k page : ℕ) (pages : List ℕ) (old now : PageRecor
     AreUsed count (drop (k + 1) pages) old now → (record_at now.records page).resident ≡ true
 resident-step count k page pages old now within is resident used =
     ap (λ (x : PageRecord). x.resident) (used.records page)
-        ∙ (used-resident (is_among (drop (k + 1) pages) page) count (record_at old.records page)
-        ∙ resident page (among-at pages k page within (sym is)))
+    ∙ (used-resident (is_among (drop (k + 1) pages) page) count (record_at old.records page)
+    ∙ resident page (among-at pages k page within (sym is)))
 
 -- all others were used before it, or with it and are greater
 pub before-step : (count k page : ℕ) (pages : List ℕ) (old now : PageRecords) → k < length pages →
@@ -89,33 +89,11 @@ pub before-step : (count k page : ℕ) (pages : List ℕ) (old now : PageRecords
     AreUsed count (drop (k + 1) pages) old now → (p : ℕ) → IsUsedBefore count page p (record_at now.records p).last_used
 before-step count k page pages old now within is up later used p =
     let greater : is_among (drop (k + 1) pages) p ≡ true →
-        page < p = λ among. subst (λ q. q < p) (sym is) (after-place 0 pages k p up within among) in
+    page < p = λ among. subst (λ q. q < p) (sym is) (after-place 0 pages k p up within among) in
     subst (λ (x : PageRecord). IsUsedBefore count page p x.last_used) (sym (used.records p))
-        (used-before (is_among (drop (k + 1) pages) p) count page p (record_at old.records p) (later p) greater)
+    (used-before (is_among (drop (k + 1) pages) p) count page p (record_at old.records p) (later p) greater)
 
--- ---- dependents
-
-pub HaveMoreDependents-none : (table : PageRecords) → HaveMoreDependents [] table table
-HaveMoreDependents-none table = record {
-  roots = refl;
-  len = refl;
-  records = λ page. ap (λ n. record (record_at table.records page) { dependents = n })
-      (none (record_at table.records page).dependents);
-}
-  where
-    none : (n : ℕ) → n ≡ n + 0
-    none n = omega arith
-
-pub HaveFewerDependents-none : (table : PageRecords) → HaveFewerDependents [] table table
-HaveFewerDependents-none table = record {
-  roots = refl;
-  len = refl;
-  records = λ page. ap (λ n. record (record_at table.records page) { dependents = n })
-      (none (record_at table.records page).dependents);
-}
-  where
-    none : (n : ℕ) → n ≡ n - 0
-    none n = omega arith
+-- ---- records that are changed for each time that their page is among some
 
 -- the page at a place is once more among those up to it
 times-here : (numbers : List ℕ) (i number : ℕ) → i < length numbers → number ≡ get_or numbers i 0 →
@@ -134,6 +112,70 @@ pub times-ahead : (numbers : List ℕ) (i number : ℕ) → i < length numbers �
 times-ahead numbers i number within is =
     omega (arith, times-here numbers i number within is, sum_by-take-le (λ n. cond (n == number) 1 0) numbers (i + 1))
 
+-- the page at place i is changed once more
+AreChanged-step : (change : ℕ → PageRecord → PageRecord) (i page : ℕ) (pages : List ℕ) (old now : PageRecords)
+    (r : PageRecord) → i < length pages → page ≡ get_or pages i 0 → page < length now.records →
+    ((k : ℕ) → record_at now.records page ≡ change k (record_at old.records page) →
+    r ≡ change (k + 1) (record_at old.records page)) →
+    AreChanged change (take i pages) old now → AreChanged change (take (i + 1) pages) old (with_record now page r)
+AreChanged-step change i page pages old now r within is below again changed = record {
+  roots = changed.roots;
+  len = length-set now.records page r ∙ changed.len;
+  records = λ p. ⊎_elim
+      (λ same. subst (λ q. record_at (set now.records page r) q
+      ≡ change (times (take (i + 1) pages) q) (record_at old.records q)) (sym same)
+      (record-same now.records page r below
+      ∙ (again (times (take i pages) page) (changed.records page)
+      ∙ ap (λ k. change k (record_at old.records page)) (sym (times-here pages i page within is)))))
+      (λ other. record-other now.records page p r other
+      ∙ (changed.records p
+      ∙ ap (λ k. change k (record_at old.records p))
+      (sym (times-other pages i p within (λ e. other (e ∙ sym is))))))
+      (cases_eq p page);
+}
+
+once-more : (a k : ℕ) → a + k + 1 ≡ a + (k + 1)
+once-more a k = omega arith
+
+once-fewer : (a k : ℕ) → a - k - 1 ≡ a - (k + 1)
+once-fewer a k = omega arith
+
+pub HaveMoreDependents-step : (i page : ℕ) (uppers : List ℕ) (old now : PageRecords) → i < length uppers →
+    page ≡ get_or uppers i 0 → page < length now.records → HaveMoreDependents (take i uppers) old now →
+    HaveMoreDependents (take (i + 1) uppers) old
+    (with_record now page (more_dependents 1 (record_at now.records page)))
+HaveMoreDependents-step i page uppers old now within is below more =
+    let o = record_at old.records page in
+    AreChanged-step more_dependents i page uppers old now (more_dependents 1 (record_at now.records page)) within is
+    below (λ k e. ap (more_dependents 1) e ∙ ap (λ n. record o { dependents = n }) (once-more o.dependents k)) more
+
+pub HaveFewerDependents-step : (i page : ℕ) (uppers : List ℕ) (old now : PageRecords) → i < length uppers →
+    page ≡ get_or uppers i 0 → page < length now.records → HaveFewerDependents (take i uppers) old now →
+    HaveFewerDependents (take (i + 1) uppers) old
+    (with_record now page (fewer_dependents 1 (record_at now.records page)))
+HaveFewerDependents-step i page uppers old now within is below fewer =
+    let o = record_at old.records page in
+    AreChanged-step fewer_dependents i page uppers old now (fewer_dependents 1 (record_at now.records page)) within is
+    below (λ k e. ap (fewer_dependents 1) e ∙ ap (λ n. record o { dependents = n }) (once-fewer o.dependents k)) fewer
+
+pub HaveMorePins-step : (i page : ℕ) (pages : List ℕ) (old now : PageRecords) → i < length pages →
+    page ≡ get_or pages i 0 → page < length now.records → HaveMorePins (take i pages) old now →
+    HaveMorePins (take (i + 1) pages) old (with_record now page (more_pins 1 (record_at now.records page)))
+HaveMorePins-step i page pages old now within is below more =
+    let o = record_at old.records page in
+    AreChanged-step more_pins i page pages old now (more_pins 1 (record_at now.records page)) within is below
+    (λ k e. ap (more_pins 1) e ∙ ap (λ n. record o { pins = n }) (once-more o.pins k)) more
+
+pub HaveFewerPins-step : (i page : ℕ) (pages : List ℕ) (old now : PageRecords) → i < length pages →
+    page ≡ get_or pages i 0 → page < length now.records → HaveFewerPins (take i pages) old now →
+    HaveFewerPins (take (i + 1) pages) old (with_record now page (fewer_pins 1 (record_at now.records page)))
+HaveFewerPins-step i page pages old now within is below fewer =
+    let o = record_at old.records page in
+    AreChanged-step fewer_pins i page pages old now (fewer_pins 1 (record_at now.records page)) within is below
+    (λ k e. ap (fewer_pins 1) e ∙ ap (λ n. record o { pins = n }) (once-fewer o.pins k)) fewer
+
+-- ---- what the records count after such changes
+
 pub more-dependents : (uppers : List ℕ) (old new : PageRecords) → HaveMoreDependents uppers old new → (page : ℕ) →
     (record_at new.records page).dependents ≡ (record_at old.records page).dependents + times uppers page
 more-dependents uppers old new more page = ap (λ (x : PageRecord). x.dependents) (more.records page)
@@ -142,62 +184,10 @@ pub fewer-dependents : (uppers : List ℕ) (old new : PageRecords) → HaveFewer
     (record_at new.records page).dependents ≡ (record_at old.records page).dependents - times uppers page
 fewer-dependents uppers old new fewer page = ap (λ (x : PageRecord). x.dependents) (fewer.records page)
 
-pub HaveMoreDependents-step : (i page : ℕ) (uppers : List ℕ) (old now : PageRecords) → i < length uppers →
-    page ≡ get_or uppers i 0 → page < length now.records → HaveMoreDependents (take i uppers) old now →
-    HaveMoreDependents (take (i + 1) uppers) old
-    (with_record now page (record (record_at now.records page)
-    { dependents = (record_at now.records page).dependents + 1 }))
-HaveMoreDependents-step i page uppers old now within is below more =
-    let r : PageRecord = record (record_at now.records page)
-        { dependents = (record_at now.records page).dependents + 1 } in
-    record {
-      roots = more.roots;
-      len = length-set now.records page r ∙ more.len;
-      records = λ p. ⊎_elim
-          (λ same. subst (λ q. record_at (set now.records page r) q
-              ≡ record (record_at old.records q) { dependents =
-              (record_at old.records q).dependents + times (take (i + 1) uppers) q }) (sym same)
-          (record-same now.records page r below ∙ (ap (λ (x : PageRecord). record x { dependents = x.dependents + 1 })
-              (more.records page) ∙ ap (λ n. record (record_at old.records page) { dependents = n })
-              (again (record_at old.records page).dependents (times (take i uppers) page)
-              (times (take (i + 1) uppers) page) (times-here uppers i page within is)))))
-          (λ other.
-          let other_too : p ≢ get_or uppers i 0 = λ e. other (e ∙ sym is) in
-          record-other now.records page p r other ∙ (more.records p
-              ∙ ap (λ n. record (record_at old.records p) { dependents = (record_at old.records p).dependents + n })
-              (sym (times-other uppers i p within other_too))))
-          (cases_eq p page);
-    }
-  where
-    again : (a b c : ℕ) → c ≡ b + 1 → a + b + 1 ≡ a + c
-    again a b c e = omega (arith, e)
+pub more-pins : (pages : List ℕ) (old new : PageRecords) → HaveMorePins pages old new → (page : ℕ) →
+    (record_at new.records page).pins ≡ (record_at old.records page).pins + times pages page
+more-pins pages old new more page = ap (λ (x : PageRecord). x.pins) (more.records page)
 
-pub HaveFewerDependents-step : (i page : ℕ) (uppers : List ℕ) (old now : PageRecords) → i < length uppers →
-    page ≡ get_or uppers i 0 → page < length now.records → HaveFewerDependents (take i uppers) old now →
-    HaveFewerDependents (take (i + 1) uppers) old
-    (with_record now page (record (record_at now.records page)
-    { dependents = (record_at now.records page).dependents - 1 }))
-HaveFewerDependents-step i page uppers old now within is below fewer =
-    let r : PageRecord = record (record_at now.records page)
-        { dependents = (record_at now.records page).dependents - 1 } in
-    record {
-      roots = fewer.roots;
-      len = length-set now.records page r ∙ fewer.len;
-      records = λ p. ⊎_elim
-          (λ same. subst (λ q. record_at (set now.records page r) q
-              ≡ record (record_at old.records q) { dependents =
-              (record_at old.records q).dependents - times (take (i + 1) uppers) q }) (sym same)
-          (record-same now.records page r below ∙ (ap (λ (x : PageRecord). record x { dependents = x.dependents - 1 })
-              (fewer.records page) ∙ ap (λ n. record (record_at old.records page) { dependents = n })
-              (again (record_at old.records page).dependents (times (take i uppers) page)
-              (times (take (i + 1) uppers) page) (times-here uppers i page within is)))))
-          (λ other.
-          let other_too : p ≢ get_or uppers i 0 = λ e. other (e ∙ sym is) in
-          record-other now.records page p r other ∙ (fewer.records p
-              ∙ ap (λ n. record (record_at old.records p) { dependents = (record_at old.records p).dependents - n })
-              (sym (times-other uppers i p within other_too))))
-          (cases_eq p page);
-    }
-  where
-    again : (a b c : ℕ) → c ≡ b + 1 → a - b - 1 ≡ a - c
-    again a b c e = omega (arith, e)
+pub fewer-pins : (pages : List ℕ) (old new : PageRecords) → HaveFewerPins pages old new → (page : ℕ) →
+    (record_at new.records page).pins ≡ (record_at old.records page).pins - times pages page
+fewer-pins pages old new fewer page = ap (λ (x : PageRecord). x.pins) (fewer.records page)

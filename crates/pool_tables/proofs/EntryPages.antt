@@ -52,7 +52,7 @@ no-root layout s page sound absent = above (nat_lt page layout.roots) refl
 pub taken-absent : (layout : Layout) (s : State) (page : ℕ) → can_take layout s page ≡ true → is_held s page ≡ false
 taken-absent layout s page can =
     not-false (is_held s page) (and-both (not (is_held s page)) (list_all (is_resident s) (uppers_of layout page))
-        can).0
+    can).0
 
 -- a resident page is not being loaded
 pub resident-idle : (layout : Layout) (s : State) (page : ℕ) → IsSound layout s → is_resident s page ≡ true →
@@ -105,7 +105,7 @@ ArePagesOf-victim layout s page victim old new bounds lists sound are evictable 
 
 pub ArePagesOf-take : (layout : Layout) (s : State) (by : ℕ) (frame : Option ℕ) (page : ℕ) (old new : PageRecords) →
     InBounds layout → HasItemAPage layout s → IsSound layout s → ArePagesOf layout s old →
-        can_take layout s page ≡ true →
+    can_take layout s page ≡ true →
     page < layout.pages →
     HaveMoreDependents (uppers_of layout page)
     (with_record old page (record (record_at old.records page) { loader = Some (record { 0 = by }) })) new →
@@ -163,7 +163,7 @@ ArePagesOf-lost layout s by page old new bounds lists sound are loads fewer =
     let absent = installed-absent layout s by page sound loads in
     ArePagesOf-ended layout s page (s.entries + 1) old new bounds lists are absent (loads-loading s by page loads)
     (no-root layout s page sound absent) (omega
-        (arith, installed-below layout s by page lists loads, lists.flag_a_page)) fewer
+    (arith, installed-below layout s by page lists loads, lists.flag_a_page)) fewer
 
 pub ArePagesOf-fail : (layout : Layout) (s : State) (by page before after : ℕ) (table : PageRecords) →
     ArePagesOf layout (record s { loading = set s.loading page None }) table →
@@ -190,7 +190,7 @@ pub ArePagesOf-settle : (layout : Layout) (s : State) (by frame : ℕ) (pages mi
     ArePagesOf layout (state_after s (record { by = by; what = Settle frame pages missing })) new
 ArePagesOf-settle layout s by frame pages missing old new are used =
     ArePagesOf-again layout (record s { last_used = set_last_used (s.entries + 1) pages s.last_used }) _ new refl refl
-        refl
+    refl
     (ArePagesOf-used layout s (s.entries + 1) pages old new are used)
 
 pub ArePagesOf-narrow : (layout : Layout) (s : State) (by frame : ℕ) (pages : List ℕ) (old new : PageRecords) →
@@ -198,5 +198,5 @@ pub ArePagesOf-narrow : (layout : Layout) (s : State) (by frame : ℕ) (pages : 
     ArePagesOf layout (state_after s (record { by = by; what = Narrow frame pages })) new
 ArePagesOf-narrow layout s by frame pages old new are used =
     ArePagesOf-again layout (record s { last_used = set_last_used (s.entries + 1) pages s.last_used }) _ new refl refl
-        refl
+    refl
     (ArePagesOf-used layout s (s.entries + 1) pages old new are used)

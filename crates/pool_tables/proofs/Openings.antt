@@ -44,7 +44,7 @@ held-least (suc n) roots =
     let e : suc n ≡ n + 1 = omega arith in
     let held = λ (m : ℕ). count_by is_record_held (opening_records m roots).records in
     ap held e ∙ (sum_by-map-range_with_len_more (λ r. cond (is_record_held r) 1 0) (opening_record roots) 0 n n
-        (omega arith)
+    (omega arith)
     ∙ (ap (λ m. m + cond (nat_lt n roots || false) 1 0) (held-least n roots) ∙ one-more n roots (nat_lt n roots) refl))
 
 -- the root pages are held

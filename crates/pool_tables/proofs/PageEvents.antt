@@ -78,7 +78,7 @@ pub ArePagesOf-evicted : (layout : Layout) (s : State) (page : ℕ) (old new : P
     HasItemAPage layout s → ArePagesOf layout s old → is_resident s page ≡ true → is_loading s page ≡ false →
     layout.roots ≤ page → page < layout.pages →
     HaveFewerDependents (uppers_of layout page)
-        (with_record old page (record (record_at old.records page) { resident = false })) new →
+    (with_record old page (record (record_at old.records page) { resident = false })) new →
     ArePagesOf layout (record s { resident = set s.resident page false }) new
 ArePagesOf-evicted layout s page old new bounds lists are resident idle no_root below fewer =
     let r : PageRecord = record (record_at old.records page) { resident = false } in
@@ -89,7 +89,7 @@ ArePagesOf-evicted layout s page old new bounds lists are resident idle no_root 
     let held : is_held s page ≡ true = ap (λ b. b || is_loading s page) resident in
     let absent : is_held t page ≡ false =
     ap (λ b. b || is_loading s page) (get_or-set_same s.resident page false false
-        (omega (arith, below, lists.flag_a_page))) ∙ idle in
+    (omega (arith, below, lists.flag_a_page))) ∙ idle in
     record {
       roots = fewer.roots ∙ are.roots;
       resident = maps-kept resident_of mid.records new.records fewer.len (λ p. ap resident_of (fewer.records p))
@@ -110,7 +110,7 @@ pub ArePagesOf-taken : (layout : Layout) (s : State) (page by : ℕ) (old new : 
     HasItemAPage layout s → ArePagesOf layout s old → is_held s page ≡ false → layout.roots ≤ page →
     page < layout.pages →
     HaveMoreDependents (uppers_of layout page)
-        (with_record old page (record (record_at old.records page) { loader = Some (record { 0 = by }) })) new →
+    (with_record old page (record (record_at old.records page) { loader = Some (record { 0 = by }) })) new →
     ArePagesOf layout (record s { loading = set s.loading page (Some by) }) new
 ArePagesOf-taken layout s page by old new bounds lists are absent no_root below more =
     let r : PageRecord = record (record_at old.records page) { loader = Some (record { 0 = by }) } in
@@ -118,10 +118,10 @@ ArePagesOf-taken layout s page by old new bounds lists are absent no_root below 
     let t : State = record s { loading = set s.loading page (Some by) } in
     let others : (q : ℕ) → q ≢ page → is_held t q ≡ is_held s q =
     λ q other. ap (λ maker. is_resident s q || is_some maker)
-        (get_or-set_other s.loading page q (Some by) None other) in
+    (get_or-set_other s.loading page q (Some by) None other) in
     let held : is_held t page ≡ true =
     ap (λ maker. is_resident s page || is_some maker)
-        (get_or-set_same s.loading page (Some by) None (omega (arith, below, lists.maker_a_page)))
+    (get_or-set_same s.loading page (Some by) None (omega (arith, below, lists.maker_a_page)))
     ∙ or-true (is_resident s page) in
     record {
       roots = more.roots ∙ are.roots;
@@ -145,7 +145,7 @@ pub ArePagesOf-ended : (layout : Layout) (s : State) (page count : ℕ) (old new
     HasItemAPage layout s → ArePagesOf layout s old → is_resident s page ≡ false → is_loading s page ≡ true →
     layout.roots ≤ page → page < layout.pages →
     HaveFewerDependents (uppers_of layout page)
-        (with_record old page (record (record_at old.records page) { loader = None; load_ended_at = count })) new →
+    (with_record old page (record (record_at old.records page) { loader = None; load_ended_at = count })) new →
     ArePagesOf layout (record s { loading = set s.loading page None }) new
 ArePagesOf-ended layout s page count old new bounds lists are absent loading no_root below fewer =
     let r : PageRecord = record (record_at old.records page) { loader = None; load_ended_at = count } in
@@ -156,7 +156,7 @@ ArePagesOf-ended layout s page count old new bounds lists are absent loading no_
     let held : is_held s page ≡ true = ap (λ b. is_resident s page || b) loading ∙ or-true (is_resident s page) in
     let no_more : is_held t page ≡ false =
     ap (λ maker. is_resident s page || is_some {T = ℕ} maker)
-        (get_or-set_same s.loading page None None (omega (arith, below, lists.maker_a_page)))
+    (get_or-set_same s.loading page None None (omega (arith, below, lists.maker_a_page)))
     ∙ ap (λ b. b || false) absent in
     record {
       roots = fewer.roots ∙ are.roots;
@@ -222,7 +222,7 @@ ArePagesOf-installed layout s page count old lists are loading below =
     now : (flags : List Bool) (makers : List (Option ℕ)) → page < length flags →
         is_some (get_or makers page None) ≡ true →
         (get_or (set flags page true) page false || is_some (get_or (set makers page None) page None))
-            ≡ (get_or flags page false || is_some (get_or makers page None))
+        ≡ (get_or flags page false || is_some (get_or makers page None))
     now flags makers lt is =
         ap (λ b. b || is_some (get_or (set makers page None) page None)) (get_or-set_same flags page true false lt)
         ∙ sym (ap (λ b. get_or flags page false || b) is ∙ or-true (get_or flags page false))
@@ -231,8 +231,11 @@ ArePagesOf-installed layout s page count old lists are loading below =
         ≡ (get_or s.resident q false || is_some (get_or s.loading q None))
     same q = ⊎_elim
         (λ here. rw here (now s.resident s.loading (omega (arith, below, lists.flag_a_page)) loading))
-        (λ other. rw (get_or-set_other s.resident page q true false other, get_or-set_other s.loading page q None None
-            other) refl)
+        (λ other. rw (
+          get_or-set_other s.resident page q true false other,
+          get_or-set_other s.loading page q None None
+              other,
+        ) refl)
         (cases_eq q page)
 
 -- ---- pages are used
@@ -261,7 +264,7 @@ used-there count (page ∷ pages) counts p within =
         ≡ cond ((page == p) || b) count (get_or counts p 0)
     here-used b here =
         both b (get_or (set counts page count) p 0)
-            (ap (λ i. get_or (set counts i count) p 0) here ∙ get_or-set_same counts p count 0 within)
+        (ap (λ i. get_or (set counts i count) p 0) here ∙ get_or-set_same counts p count 0 within)
         ∙ sym (ap (λ c. cond (c || b) count (get_or counts p 0)) (eq-eqb page p here))
 
 used-count : (b : Bool) (count : ℕ) (r : PageRecord) → (used_if b count r).last_used ≡ cond b count r.last_used
@@ -301,5 +304,5 @@ ArePagesOf-used layout s count pages old new are used = record {
         ∙ (ap used_of (used.records p)
         ∙ (used-count (is_among pages p) count (record_at old.records p)
         ∙ (ap (λ n. cond (is_among pages p) count n)
-            (sym (get_or-map used_of old.records p no_record) ∙ ap (λ counts. get_or counts p 0) are.last_used)
+        (sym (get_or-map used_of old.records p no_record) ∙ ap (λ counts. get_or counts p 0) are.last_used)
         ∙ sym (used-there count pages s.last_used p lt))))

@@ -137,7 +137,7 @@ one-either false b apart = let e : 0 + one b ≡ one b = omega arith in sym e
 held-split : (records : List PageRecord) →
     ((page : ℕ) → (record_at records page).resident ≡ true → is_some (record_at records page).loader ≡ true → ⊥) →
     count_by is_record_held records ≡ count_by (λ b. b) (map resident_of records) + count_by is_some
-        (map loader_number records)
+    (map loader_number records)
 held-split [] apart = refl
 held-split (r ∷ records) apart =
     let rest = held-split records (λ page. apart (suc page)) in
@@ -153,6 +153,6 @@ pub held-count : (layout : Layout) (s : State) (table : PageRecords) → IsSound
 held-count layout s table sound are =
     held-split table.records (λ page resident loading.
     sound.apart page (sym (resident-at layout s table are page) ∙ resident)
-        (sym (loading-at layout s table are page) ∙ loading))
+    (sym (loading-at layout s table are page) ∙ loading))
     ∙ (ap (λ flags. count_by (λ b. b) flags + count_by is_some (map loader_number table.records)) are.resident
     ∙ ap (λ makers. count_by (λ b. b) s.resident + count_by is_some makers) are.loading)

@@ -90,8 +90,14 @@ dependents-added layout s t page p bounds no_root below others absent held =
     ap (λ b. one (b && is_upper layout p page)) absent in
     let after : one (is_held t page && is_upper layout p page) ≡ one (is_upper layout p page) =
     ap (λ b. one (b && is_upper layout p page)) held in
-    omega (arith, dependents-changed layout s t page p no_root below others, before, after, times-upper layout page p
-        bounds below)
+    omega (
+      arith,
+      dependents-changed layout s t page p no_root below others,
+      before,
+      after,
+      times-upper layout page p
+          bounds below,
+    )
 
 pub dependents-removed : (layout : Layout) (s t : State) (page p : ℕ) → InBounds layout → layout.roots ≤ page →
     page < layout.pages → ((q : ℕ) → q ≢ page → is_held t q ≡ is_held s q) → is_held s page ≡ true →
@@ -101,8 +107,14 @@ dependents-removed layout s t page p bounds no_root below others held absent =
     ap (λ b. one (b && is_upper layout p page)) held in
     let after : one (is_held t page && is_upper layout p page) ≡ 0 =
     ap (λ b. one (b && is_upper layout p page)) absent in
-    omega (arith, dependents-changed layout s t page p no_root below others, before, after, times-upper layout page p
-        bounds below)
+    omega (
+      arith,
+      dependents-changed layout s t page p no_root below others,
+      before,
+      after,
+      times-upper layout page p
+          bounds below,
+    )
 
 pub dependents-same : (layout : Layout) (s t : State) (p : ℕ) → ((q : ℕ) → is_held t q ≡ is_held s q) →
     dependent_count layout t p ≡ dependent_count layout s p

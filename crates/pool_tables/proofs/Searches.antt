@@ -59,7 +59,7 @@ pub IsFound-from_find : (last_used : ℕ → ℕ) (test : ℕ → Bool) (pages :
 IsFound-from_find last_used test [] p ordered found = cc
 IsFound-from_find last_used test (page ∷ pages) p ordered found =
     elim (test page) as (λ b. test page ≡ b → cond b (Some page) (find test pages) ≡ Some p →
-        IsFound last_used test (page ∷ pages) p) [
+    IsFound last_used test (page ∷ pages) p) [
       | true ↦ λ passes k. let same : page ≡ p = cc in
           subst (λ q. IsFound last_used test (page ∷ pages) q) same
           (found-here last_used test page pages ordered passes)
@@ -94,7 +94,7 @@ IsFirst-from_find table order snapshot uppers (Some page) is_order some =
     let test = is_candidate table.records snapshot uppers in
     let found = IsFound-from_find (used_at table.records) test order.pages page is_order.ordered some in
     let mark = and-both (record_at table.records page).resident (not (nat_lt page table.roots))
-        (sym (is_order.listed page) ∙ found.among) in (
+    (sym (is_order.listed page) ∙ found.among) in (
       rw (mark.0, mark.1) found.passes,
       λ q passes ne.
           let resident = and-both (record_at table.records q).resident (not (nat_lt q table.roots) && test q) passes in
@@ -127,5 +127,5 @@ victim_for-from_first layout s page found within first = by_victim (victim_for l
         ⊎_elim
         (λ same. is ∙ ap (λ q. Some q) same)
         (λ other. absurd (not-both s v w (found.1 w victim.evictable other)
-            (victim.first v (within v found.0) found.0)))
+        (victim.first v (within v found.0) found.0)))
         (cases_eq w v)

@@ -19,16 +19,18 @@ use Rattle.pool_tables.proofs.Apart.{ne-eqb, all-without, all-push, among-from_l
 pub all-from_among : (P : ℕ → Type 0) (pages : List ℕ) → ((q : ℕ) → is_among pages q ≡ true → P q) →
     AllByRecursion P pages
 all-from_among P [] h = tt
-all-from_among P (page ∷ pages) h =
-    (h page (or-left (page == page) (is_among pages page) (eq-eqb page page refl)), all-from_among P pages
-        (λ q among. h q (or-right (page == q) (is_among pages q) among)))
+all-from_among P (page ∷ pages) h = (
+  h page (or-left (page == page) (is_among pages page) (eq-eqb page page refl)),
+  all-from_among P pages
+      (λ q among. h q (or-right (page == q) (is_among pages q) among)),
+)
 
 pub among-without_other : (page q : ℕ) (pages : List ℕ) → q ≢ page → is_among (without page pages) q ≡ is_among pages q
 among-without_other page q [] ne = refl
 among-without_other page q (p ∷ pages) ne =
     ⊎_elim
     (λ same. let other : p ≢ q = λ e. ne (sym e ∙ same) in
-        rw (eq-eqb p page same, ne-eqb p q other) (among-without_other page q pages ne))
+    rw (eq-eqb p page same, ne-eqb p q other) (among-without_other page q pages ne))
     (λ other. rw (ne-eqb p page other) (ap (λ b. (p == q) || b) (among-without_other page q pages ne)))
     (cases_eq p page)
 
@@ -49,16 +51,18 @@ AreInOrder-same f g [] h same = tt
 AreInOrder-same f g (page ∷ pages) h same =
     let here = same page (or-left (page == page) (is_among pages page) (eq-eqb page page refl)) in
     let later = λ (q : ℕ). λ (among : is_among pages q ≡ true). same q
-        (or-right (page == q) (is_among pages q) among) in
+    (or-right (page == q) (is_among pages q) among) in
     (moved pages h.0 here later, AreInOrder-same f g pages h.1 later)
   where
     moved : (qs : List ℕ) → AllByRecursion (ComesBefore f page) qs → g page ≡ f page →
         ((q : ℕ) → is_among qs q ≡ true → g q ≡ f q) → AllByRecursion (ComesBefore g page) qs
     moved [] k here later = tt
     moved (q ∷ qs) k here later =
-        let at = later q (or-left (q == q) (is_among qs q) (eq-eqb q q refl)) in
-        (⊎_elim (λ less. inl (omega (arith, here, at, less))) (λ tie. inr (here ∙ tie.0 ∙ sym at, tie.1)) k.0, moved qs
-            k.1 here (λ r among. later r (or-right (q == r) (is_among qs r) among)))
+        let at = later q (or-left (q == q) (is_among qs q) (eq-eqb q q refl)) in (
+          ⊎_elim (λ less. inl (omega (arith, here, at, less))) (λ tie. inr (here ∙ tie.0 ∙ sym at, tie.1)) k.0,
+          moved qs
+              k.1 here (λ r among. later r (or-right (q == r) (is_among qs r) among)),
+        )
 
 pub AreInOrder-without : (f : ℕ → ℕ) (page : ℕ) (pages : List ℕ) → AreInOrder f pages →
     AreInOrder f (without page pages)
@@ -66,8 +70,11 @@ AreInOrder-without f page [] h = tt
 AreInOrder-without f page (p ∷ pages) h =
     ⊎_elim
     (λ same. rw (eq-eqb p page same) (AreInOrder-without f page pages h.1))
-    (λ other. rw (ne-eqb p page other) (all-without (ComesBefore f p) page pages h.0, AreInOrder-without f page pages
-        h.1))
+    (λ other. rw (ne-eqb p page other) (
+      all-without (ComesBefore f p) page pages h.0,
+      AreInOrder-without f page pages
+          h.1,
+    ))
     (cases_eq p page)
 
 pub AreInOrder-push : (f : ℕ → ℕ) (page : ℕ) (pages : List ℕ) → AreInOrder f pages →
@@ -163,11 +170,11 @@ IsUseOrder-kept roots records order page r lt old resident used =
       capacity = old.capacity ∙ sym (length-set records page r);
       listed = λ q. by-page (ListsResident roots new order.pages) page q
           (old.listed page ∙ (ap (λ b. b && not (nat_lt page roots)) (sym resident)
-              ∙ ap (mark roots page) (sym (record-same records page r lt))))
+          ∙ ap (mark roots page) (sym (record-same records page r lt))))
           (λ other. old.listed q ∙ ap (mark roots q) (sym (record-other records page q r other)));
       ordered = AreInOrder-same (used_at records) (used_at new) order.pages old.ordered (λ q among.
           by-page (λ p. used_at new p ≡ used_at records p) page q (used-same records page r lt ∙ used)
-              (used-other records page r q));
+          (used-other records page r q));
     }
 
 -- what is left of the order without the page is in order, whatever its record says
@@ -175,11 +182,11 @@ without-page : (records : List PageRecord) (page : ℕ) (r : PageRecord) (pages 
     AreInOrder (used_at records) pages → AreInOrder (used_at (set records page r)) (without page pages)
 without-page records page r pages h =
     AreInOrder-same (used_at records) (used_at (set records page r)) (without page pages)
-        (AreInOrder-without (used_at records) page pages h) (λ q among.
+    (AreInOrder-without (used_at records) page pages h) (λ q among.
     ⊎_elim
     (λ same. let none = among-from_lacks (without page pages) page (Lacks-without_same page pages) in
-        let some : is_among (without page pages) page ≡ true =
-        subst (λ p. is_among (without page pages) p ≡ true) same among in cc)
+    let some : is_among (without page pages) page ≡ true =
+    subst (λ p. is_among (without page pages) p ≡ true) same among in cc)
     (λ other. used-other records page r q other)
     (cases_eq q page))
 
@@ -194,10 +201,10 @@ IsUseOrder-evict roots records order page r lt old absent =
       capacity = old.capacity ∙ sym (length-set records page r);
       listed = λ q. by-page (ListsResident roots new left) page q
           (among-from_lacks left page (Lacks-without_same page order.pages)
-              ∙ (ap (λ b. b && not (nat_lt page roots)) (sym absent)
-              ∙ ap (mark roots page) (sym (record-same records page r lt))))
+          ∙ (ap (λ b. b && not (nat_lt page roots)) (sym absent)
+          ∙ ap (mark roots page) (sym (record-same records page r lt))))
           (λ other. among-without_other page q order.pages other
-              ∙ (old.listed q ∙ ap (mark roots q) (sym (record-other records page q r other))));
+          ∙ (old.listed q ∙ ap (mark roots q) (sym (record-other records page q r other))));
       ordered = without-page records page r order.pages old.ordered;
     }
 
@@ -217,7 +224,7 @@ before-last records page r pages lt absent before =
     (λ other.
     let there = used-other records page r q other in
     ⊎_elim (λ less. inl (omega (arith, here, there, less))) (λ tie. inr (there ∙ (tie.0 ∙ sym here), tie.1))
-        (before q other among))
+    (before q other among))
     (cases_eq q page))
 
 -- a page that becomes resident, and is used after all others
@@ -232,14 +239,14 @@ IsUseOrder-install roots records order page r lt old absent no_root resident lat
       capacity = old.capacity ∙ sym (length-set records page r);
       listed = λ q. by-page (ListsResident roots new with_page) page q
           (among-push_same page order.pages ∙ (sym (above-roots page roots no_root)
-              ∙ (ap (λ b. b && not (nat_lt page roots)) (sym resident)
-              ∙ ap (mark roots page) (sym (record-same records page r lt)))))
+          ∙ (ap (λ b. b && not (nat_lt page roots)) (sym resident)
+          ∙ ap (mark roots page) (sym (record-same records page r lt)))))
           (λ other. among-push_other page q order.pages other
-              ∙ (old.listed q ∙ ap (mark roots q) (sym (record-other records page q r other))));
+          ∙ (old.listed q ∙ ap (mark roots q) (sym (record-other records page q r other))));
       ordered = AreInOrder-push (used_at new) page order.pages
           (AreInOrder-same (used_at records) (used_at new) order.pages old.ordered (λ q among. ⊎_elim
           (λ same. let some : is_among order.pages page ≡ true =
-              subst (λ p. is_among order.pages p ≡ true) same among in cc)
+          subst (λ p. is_among order.pages p ≡ true) same among in cc)
           (λ other. used-other records page r q other)
           (cases_eq q page)))
           (before-last records page r order.pages lt absent (λ q other among. inl (later q)));
@@ -259,11 +266,11 @@ IsUseOrder-use roots records order page r lt old present resident later =
       capacity = old.capacity ∙ sym (length-set records page r);
       listed = λ q. by-page (ListsResident roots new (left ++ page ∷ [])) page q
           (among-push_same page left ∙ (sym present
-              ∙ (old.listed page ∙ (ap (λ b. b && not (nat_lt page roots)) (sym resident)
-              ∙ ap (mark roots page) (sym (record-same records page r lt))))))
+          ∙ (old.listed page ∙ (ap (λ b. b && not (nat_lt page roots)) (sym resident)
+          ∙ ap (mark roots page) (sym (record-same records page r lt))))))
           (λ other. among-push_other page q left other
-              ∙ (among-without_other page q order.pages other
-              ∙ (old.listed q ∙ ap (mark roots q) (sym (record-other records page q r other)))));
+          ∙ (among-without_other page q order.pages other
+          ∙ (old.listed q ∙ ap (mark roots q) (sym (record-other records page q r other)))));
       ordered = AreInOrder-push (used_at new) page left
           (without-page records page r order.pages old.ordered)
           (before-last records page r left lt absent (λ q other among. later q other));
@@ -277,16 +284,16 @@ IsUseOrder-use_root roots records order page r lt old root resident =
     let new = set records page r in
     let below : nat_lt page roots ≡ true = grind (arith, nat_tests) in
     let unlisted : is_among order.pages page ≡ false = old.listed page
-        ∙ rw below (no-mark (record_at records page).resident) in
+    ∙ rw below (no-mark (record_at records page).resident) in
     record {
       capacity = old.capacity ∙ sym (length-set records page r);
       listed = λ q. by-page (ListsResident roots new order.pages) page q
           (old.listed page ∙ (ap (λ b. b && not (nat_lt page roots)) (sym resident)
-              ∙ ap (mark roots page) (sym (record-same records page r lt))))
+          ∙ ap (mark roots page) (sym (record-same records page r lt))))
           (λ other. old.listed q ∙ ap (mark roots q) (sym (record-other records page q r other)));
       ordered = AreInOrder-same (used_at records) (used_at new) order.pages old.ordered (λ q among. ⊎_elim
           (λ same. let some : is_among order.pages page ≡ true =
-              subst (λ p. is_among order.pages p ≡ true) same among in cc)
+          subst (λ p. is_among order.pages p ≡ true) same among in cc)
           (λ other. used-other records page r q other)
           (cases_eq q page));
     }

@@ -27,7 +27,7 @@ taken-of layout s frame page victim None first h within = absurd (without-no_tak
 taken-of layout s frame page victim (Some want) first h within =
     let at = take-at layout s want.page page victim h in
     let found = find-has (λ (w : Want). nat_lt w.page layout.pages ≡ true) (is_takeable layout s frame) s.wants want
-        within first in
+    within first in
     omega (arith, at.0, (Decides-ltb want.page layout.pages).0 found)
 
 -- a page that may be taken after a legal journal is one of the layout

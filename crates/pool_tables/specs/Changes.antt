@@ -20,18 +20,34 @@ pub record AreUsed (count : ℕ) (pages : List ℕ) (old new : PageRecords) : Ty
 abbrev pub times : List ℕ → ℕ → ℕ
 times numbers number = count_by (λ n. n == number) numbers
 
--- each page has one dependent more for each time that it is among these
-pub record HaveMoreDependents (uppers : List ℕ) (old new : PageRecords) : Type 0 where
+-- each record is changed by how often its page is among these
+pub record AreChanged (change : ℕ → PageRecord → PageRecord) (pages : List ℕ) (old new : PageRecords) : Type 0 where
   pub roots : new.roots ≡ old.roots
   pub len : length new.records ≡ length old.records
-  pub records : (page : ℕ) → record_at new.records page ≡ record (record_at old.records page) {
-    dependents = (record_at old.records page).dependents + times uppers page;
-  }
+  pub records : (page : ℕ) → record_at new.records page ≡ change (times pages page) (record_at old.records page)
 
--- each page has one dependent less for each time that it is among these
-pub record HaveFewerDependents (uppers : List ℕ) (old new : PageRecords) : Type 0 where
-  pub roots : new.roots ≡ old.roots
-  pub len : length new.records ≡ length old.records
-  pub records : (page : ℕ) → record_at new.records page ≡ record (record_at old.records page) {
-    dependents = (record_at old.records page).dependents - times uppers page;
-  }
+abbrev pub more_dependents : ℕ → PageRecord → PageRecord
+more_dependents count r = record r { dependents = r.dependents + count }
+
+abbrev pub fewer_dependents : ℕ → PageRecord → PageRecord
+fewer_dependents count r = record r { dependents = r.dependents - count }
+
+abbrev pub more_pins : ℕ → PageRecord → PageRecord
+more_pins count r = record r { pins = r.pins + count }
+
+abbrev pub fewer_pins : ℕ → PageRecord → PageRecord
+fewer_pins count r = record r { pins = r.pins - count }
+
+-- each page has one dependent more for each time that it is among these
+abbrev pub HaveMoreDependents : List ℕ → PageRecords → PageRecords → Type 0
+HaveMoreDependents uppers old new = AreChanged more_dependents uppers old new
+
+abbrev pub HaveFewerDependents : List ℕ → PageRecords → PageRecords → Type 0
+HaveFewerDependents uppers old new = AreChanged fewer_dependents uppers old new
+
+-- each page has one explicit pin more for each time that it is among these
+abbrev pub HaveMorePins : List ℕ → PageRecords → PageRecords → Type 0
+HaveMorePins pages old new = AreChanged more_pins pages old new
+
+abbrev pub HaveFewerPins : List ℕ → PageRecords → PageRecords → Type 0
+HaveFewerPins pages old new = AreChanged fewer_pins pages old new

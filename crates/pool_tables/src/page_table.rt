@@ -1,7 +1,7 @@
 ghost use Rattle.std.specs.Prelude.{◌≡◌, ◌≢◌, ◌+◌, ◌-◌, ◌^◌, ◌<◌, ◌≤◌, ℕ, length, true, false, None, Some, is_some, find, count_by, IfOk};
 ghost use Rattle.journal.specs.Layout.{ascends};
 ghost use Rattle.pool_rules.specs.Numbers.{is_among};
-ghost use Rattle.pool_tables.specs.Changes.{AreUsed, HaveMoreDependents, HaveFewerDependents, times};
+ghost use Rattle.pool_tables.specs.Changes.{AreUsed, HaveMoreDependents, HaveFewerDependents, HaveMorePins, HaveFewerPins, fewer_dependents, fewer_pins, more_dependents, more_pins, times};
 ghost use Rattle.pool_tables.specs.Eviction.{is_candidate, may_be_evicted, IsFirst};
 ghost use Rattle.pool_tables.specs.PageRecords.{record_at, with_record, is_record_held, opening_records, residents, IsUsedBefore};
 
@@ -249,39 +249,58 @@ impl PageTable {
         self.records[page as usize] = new;
     }
 
-    /// Records that one frame more pins the page explicitly.
-    pub fn pin(&mut self, page: u32)
+    /// Records that this number of frames more pin the page explicitly.
+    pub fn pin(&mut self, page: u32, frames: u64)
         requires page_range { page < length self.old.records }
-        requires room { (record_at self.old.records page).pins < 2 ^ 64 - 1 }
-        ensures { self.new ≡ with_record self.old page (record (record_at self.old.records page) {
-          pins = (record_at self.old.records page).pins + 1;
-        }) }
+        requires room { (record_at self.old.records page).pins + frames < 2 ^ 64 }
+        ensures { self.new ≡ with_record self.old page
+            (more_pins frames (record_at self.old.records page)) }
     {
         let mut pinned = self.get(page);
-        pinned.pins += 1;
+        pinned.pins += frames;
         self.replace(page, pinned);
     }
 
     /// Records that one frame less pins the page explicitly.
-    pub fn unpin(&mut self, page: u32)
+    fn unpin(&mut self, page: u32)
         requires page_range { page < length self.old.records }
         requires pinned { 0 < (record_at self.old.records page).pins }
-        ensures { self.new ≡ with_record self.old page (record (record_at self.old.records page) {
-          pins = (record_at self.old.records page).pins - 1;
-        }) }
+        ensures { self.new ≡ with_record self.old page
+            (fewer_pins 1 (record_at self.old.records page)) }
     {
         let mut unpinned = self.get(page);
         unpinned.pins -= 1;
         self.replace(page, unpinned);
     }
 
+    /// Records that one frame more pins each of the pages explicitly.
+    pub fn pin_pages(&mut self, pages: &[u32])
+        requires page_range { (p : ℕ) → is_among pages.now p ≡ true → p < length self.old.records }
+        requires room { (p : ℕ) → (record_at self.old.records p).pins + times pages.now p < 2 ^ 64 }
+        ensures { HaveMorePins pages.now self.old self.new }
+    {
+        for page in pages {
+            self.pin(*page, 1);
+        }
+    }
+
+    /// Records that one frame less pins each of the pages explicitly.
+    pub fn unpin_pages(&mut self, pages: &[u32])
+        requires page_range { (p : ℕ) → is_among pages.now p ≡ true → p < length self.old.records }
+        requires counted { (p : ℕ) → times pages.now p ≤ (record_at self.old.records p).pins }
+        ensures { HaveFewerPins pages.now self.old self.new }
+    {
+        for page in pages {
+            self.unpin(*page);
+        }
+    }
+
     /// Records that one page more depends on the page.
     fn add_dependent(&mut self, page: u32)
         requires page_range { page < length self.old.records }
         requires room { (record_at self.old.records page).dependents + 1 < 2 ^ 32 }
-        ensures { self.new ≡ with_record self.old page (record (record_at self.old.records page) {
-          dependents = (record_at self.old.records page).dependents + 1;
-        }) }
+        ensures { self.new ≡ with_record self.old page
+            (more_dependents 1 (record_at self.old.records page)) }
     {
         let mut upper = self.get(page);
         upper.dependents += 1;
@@ -292,9 +311,8 @@ impl PageTable {
     fn remove_dependent(&mut self, page: u32)
         requires page_range { page < length self.old.records }
         requires counted { 0 < (record_at self.old.records page).dependents }
-        ensures { self.new ≡ with_record self.old page (record (record_at self.old.records page) {
-          dependents = (record_at self.old.records page).dependents - 1;
-        }) }
+        ensures { self.new ≡ with_record self.old page
+            (fewer_dependents 1 (record_at self.old.records page)) }
     {
         let mut upper = self.get(page);
         upper.dependents -= 1;

@@ -6,7 +6,7 @@ use Rattle.pool_tables.proofs.page_table.first_free.Given as goal
 abbrev pub invariant-loop-page : goal.invariant-loop-page
 invariant-loop-page l =
     find (is_candidate l.records l.snapshot l.uppers) l.left
-        ≡ find (is_candidate l.records l.snapshot l.uppers) l.initial.left
+    ≡ find (is_candidate l.records l.snapshot l.uppers) l.initial.left
 
 abbrev pub decreases-loop-page : goal.decreases-loop-page
 decreases-loop-page l = length l.left

@@ -7,12 +7,12 @@ invariant_of-result c =
     let next = c.in_ok-vec.ensures.items_if_clones_equal (λ y e. e) in
     let previous = c.in_ok-vec-2.ensures.items_if_clones_equal (λ y e. e) in
     IsRing-found _ _ c.args.capacity [] (IsRing-none c.in_ok-vec.field-0.items c.in_ok-vec-2.field-0.items
-        c.args.capacity next previous)
+    c.args.capacity next previous)
 
 pub returns : goal.returns
 returns c =
     let next = c.in_ok-vec.ensures.items_if_clones_equal (λ y e. e) in
     let previous = c.in_ok-vec-2.ensures.items_if_clones_equal (λ y e. e) in
     ap (λ pages. record { capacity = c.args.capacity; pages = pages })
-        (pages_after-ring _ _ c.args.capacity []
-        (IsRing-none c.in_ok-vec.field-0.items c.in_ok-vec-2.field-0.items c.args.capacity next previous))
+    (pages_after-ring _ _ c.args.capacity []
+    (IsRing-none c.in_ok-vec.field-0.items c.in_ok-vec-2.field-0.items c.args.capacity next previous))

@@ -11,4 +11,4 @@ pub returns-clause-first : goal.returns-clause-first
 returns-clause-first c =
     let left = c.self.inside in
     sym c.self.view_is ∙ (IsStep-from_path left.next.now left.end left.from _ c.self.invariant
-        c.if-page-self.false).first
+    c.if-page-self.false).first

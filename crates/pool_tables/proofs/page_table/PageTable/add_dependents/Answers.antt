@@ -15,7 +15,7 @@ add_dependent-requires-clause-room c =
     let i = c.loop-upper.upper-index in
     let page = get_or c.args.uppers.now i 0 in
     let now = more-dependents (take i c.args.uppers.now) c.args.self.now c.loop-upper.self c.loop-upper.invariant
-        page in
+    page in
     let ahead = times-ahead c.args.uppers.now i page c.loop-upper-test.true refl in
     omega (arith, now, ahead, c.requires.room page)
 
@@ -24,8 +24,11 @@ loop-upper-preserved c =
     let i = c.loop-upper.upper-index in
     let page = get_or c.args.uppers.now i 0 in
     let below : page < length c.loop-upper.self.records =
-    omega (arith, c.requires.page_range page (among-at c.args.uppers.now i page c.loop-upper-test.true refl),
-        c.loop-upper.invariant.len) in
+    omega (
+      arith,
+      c.requires.page_range page (among-at c.args.uppers.now i page c.loop-upper-test.true refl),
+      c.loop-upper.invariant.len,
+    ) in
     rw c.add_dependent.ensures
     (HaveMoreDependents-step i page c.args.uppers.now c.args.self.now c.loop-upper.self c.loop-upper-test.true refl
-        below c.loop-upper.invariant)
+    below c.loop-upper.invariant)

@@ -14,10 +14,12 @@ invariant_of-self c =
     let idle : (record_at records page).loader ≡ None = rw (← c.self.view_is) at c.requires.idle in
     let lt : page < length records = rw (← c.self.view_is) at c.requires.page_range in
     let read : c.index-record.result.now ≡ record_at records page =
-        get_or_read records page _ lt c.index-record.ensures no_record in
+    get_or_read records page _ lt c.index-record.ensures no_record in
     let r : PageRecord = record c.index-record.result.now { loader = Some c.args.maker } in
     let more = held-more records page r lt (held-neither (record_at records page) absent (ap is_some idle))
-        (held-loading r refl) in
-    (IsUseOrder-kept table.roots records table.order page r lt c.self.invariant.0
-        (ap (λ (x : PageRecord). x.resident) read) (ap (λ (x : PageRecord). x.last_used) read), omega
-        (arith, more, c.self.invariant.1))
+    (held-loading r refl) in (
+      IsUseOrder-kept table.roots records table.order page r lt c.self.invariant.0
+          (ap (λ (x : PageRecord). x.resident) read) (ap (λ (x : PageRecord). x.last_used) read),
+      omega
+          (arith, more, c.self.invariant.1),
+    )

@@ -14,10 +14,11 @@ invariant_of-self c =
     let idle : (record_at records page).loader ≡ None = rw (← c.self.view_is) at c.requires.idle in
     let lt = resident-below records page resident in
     let read : c.index-record.result.now ≡ record_at records page =
-        get_or_read records page _ lt c.index-record.ensures no_record in
+    get_or_read records page _ lt c.index-record.ensures no_record in
     let r : PageRecord = record c.index-record.result.now { resident = false } in
     let idle_too : is_some r.loader ≡ false = ap (λ (x : PageRecord). is_some x.loader) read ∙ ap is_some idle in
     let less = held-less records page r lt (held-resident (record_at records page) resident)
-        (held-neither r refl idle_too) in
-    (rw c.remove.ensures.left (IsUseOrder-evict table.roots records table.order page r lt c.self.invariant.0 refl),
-        omega (arith, less, c.self.invariant.1))
+    (held-neither r refl idle_too) in (
+      rw c.remove.ensures.left (IsUseOrder-evict table.roots records table.order page r lt c.self.invariant.0 refl),
+      omega (arith, less, c.self.invariant.1),
+    )

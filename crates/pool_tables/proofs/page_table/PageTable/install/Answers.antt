@@ -15,11 +15,18 @@ invariant_of-self c =
     let no_root : table.roots ≤ page = rw (← c.self.view_is) at c.requires.no_root in
     let later : (q : ℕ) → (record_at records q).last_used < c.args.count = rw (← c.self.view_is) at c.requires.later in
     let lt = loading-below records page loading in
-    let r : PageRecord = record c.index-record.result.now
-        { resident = true; loader = None; last_used = c.args.count; installed_at = c.args.count; load_ended_at =
-        c.args.count } in
+    let r : PageRecord = record c.index-record.result.now {
+      resident = true;
+      loader = None;
+      last_used = c.args.count;
+      installed_at = c.args.count;
+      load_ended_at =
+          c.args.count;
+    } in
     let unlisted : is_among table.order.pages page ≡ false = c.self.invariant.0.listed page
-        ∙ ap (λ b. b && not (nat_lt page table.roots)) absent in
-    let same = held-same records page r lt (sym (held-loading (record_at records page) loading)) in
-    (rw c.push.ensures (IsUseOrder-install table.roots records table.order page r lt c.self.invariant.0 unlisted no_root
-        refl later), omega (arith, same, c.self.invariant.1))
+    ∙ ap (λ b. b && not (nat_lt page table.roots)) absent in
+    let same = held-same records page r lt (sym (held-loading (record_at records page) loading)) in (
+      rw c.push.ensures (IsUseOrder-install table.roots records table.order page r lt c.self.invariant.0 unlisted no_root
+          refl later),
+      omega (arith, same, c.self.invariant.1),
+    )

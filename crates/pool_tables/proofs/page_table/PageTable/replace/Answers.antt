@@ -13,6 +13,8 @@ invariant_of-self c =
     let resident : r.resident ≡ (record_at records page).resident = rw (← c.self.view_is) at c.requires.resident in
     let loader : r.loader ≡ (record_at records page).loader = rw (← c.self.view_is) at c.requires.loader in
     let last_used : r.last_used ≡ (record_at records page).last_used = rw (← c.self.view_is) at c.requires.last_used in
-    let same = held-same records page r lt (held-alike r (record_at records page) resident loader) in
-    (IsUseOrder-kept table.roots records table.order page r lt c.self.invariant.0 resident last_used, omega
-        (arith, same, c.self.invariant.1))
+    let same = held-same records page r lt (held-alike r (record_at records page) resident loader) in (
+      IsUseOrder-kept table.roots records table.order page r lt c.self.invariant.0 resident last_used,
+      omega
+          (arith, same, c.self.invariant.1),
+    )

@@ -11,6 +11,6 @@ use_page-requires-clause-later c =
     let within : k < length pages = omega (arith, c.loop-left-test.true, c.loop-left.invariant.within) in
     let used : AreUsed c.args.count (drop (k + 1) pages) c.args.self.now c.loop-left.self =
     subst (λ n. AreUsed c.args.count (drop n pages) c.args.self.now c.loop-left.self) again
-        c.loop-left.invariant.used in
+    c.loop-left.invariant.used in
     λ p ne. before-step c.args.count k _ pages c.args.self.now c.loop-left.self within refl c.requires.ascending
-        c.requires.later used p
+    c.requires.later used p
