@@ -25,6 +25,9 @@ pub struct PageRecord {
     pub resident: bool,
 }
 
+// A record and the page's two links in the order of use take at most 64 bytes together.
+const _: () = prove!(size_of::<PageRecord>() + 2 * size_of::<u32>() <= 64);
+
 /// The record of a page of which nothing happened.
 pub const NO_RECORD: PageRecord = PageRecord {
     last_used: 0,

@@ -334,7 +334,8 @@ impl PageTable {
     /// Records that a page with these uppers is no longer resident or being loaded.
     pub fn remove_dependents(&mut self, uppers: &[u32])
         requires page_range { (p : ℕ) → is_among uppers.now p ≡ true → p < length self.old.records }
-        requires counted { (p : ℕ) → times uppers.now p ≤ (record_at self.old.records p).dependents }
+        requires counted { (p : ℕ) →
+            times uppers.now p ≤ (record_at self.old.records p).dependents }
         ensures { HaveFewerDependents uppers.now self.old self.new }
     {
         for upper in uppers {
