@@ -63,10 +63,10 @@ pub fn large_pools_are_never_full()
         IsFalse (is_full (next_after layout journal frame)) }
 {}
 
-/// A frame that settled and is left alone since keeps the pages of its Settle resident. If it is then told
-/// that nothing is left to take for it, a load failed after the Settle for each missing page that is not
-/// resident: of the page, or of a missing page that it stands on, directly or through others. Other makers
-/// may enter what they like in between.
+/// A frame that settled and is left alone since keeps the pages of its Settle resident. If nothing is then
+/// left to take for it, a load failed after the Settle for each missing page that is not resident: of the
+/// page, or of a missing page on which it depends, directly or through others. Other makers may enter what
+/// they like in between.
 pub fn nothing_left_means_failed()
     ensures pages { (layout : Layout) (journal : List Entry) (frame : ℕ) (settle : LastSettle) →
         HasSettled layout journal frame settle → (page : ℕ) →
