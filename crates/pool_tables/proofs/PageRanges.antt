@@ -1,5 +1,5 @@
 -- What holds of records that agree with a sound state: what the calls of the table require, and how many are held.
-use Rattle.std.proofs.Common.{◌≡◌, ℕ, zero, suc, ◌+◌, ◌-◌, ◌^◌, ◌<◌, ◌≤◌, List, [], ◌∷◌, Bool, true, false, ◌||◌, ◌&&◌, Option, is_some, get_or, length, map, fold, replicate, refl, sym, ap, ◌∙◌, arith, ⊎_elim}
+use Rattle.std.proofs.Common.{◌≡◌, ℕ, zero, suc, ◌+◌, ◌-◌, ◌^◌, ◌<◌, ◌≤◌, List, [], ◌∷◌, Bool, true, false, ◌||◌, ◌&&◌, Option, is_some, get_or, length, map, fold, replicate, refl, sym, ap, ◌∙◌, arith, ⊎_elim, filter, cond, None, Some}
 use Rattle.std.specs.List.{count_by, range_with_len}
 use Rattle.std.proofs.lemmas.List.{length-map}
 use Rattle.std.proofs.lemmas.List.FromFn.{length-range_with_len}
@@ -8,16 +8,17 @@ use Rattle.journal.specs.declared.entries.Entry.{Entry}
 use Rattle.journal.specs.declared.entries.What.{What}
 use Rattle.journal.specs.declared.entries.What.TheVariants.{Pin, Settle, Ask, Narrow, Unpin, Take, Install, Fail, Spoil, Starve, Full, Stop}
 use Rattle.journal.specs.declared.layouts.Layout.{Layout}
-use Rattle.journal.specs.Layout.{InBounds, uppers_of, is_upper}
+use Rattle.journal.specs.Layout.{InBounds, page_numbers, uppers_of, is_upper}
 use Rattle.pool_rules.specs.Numbers.{is_among}
 use Rattle.pool_rules.specs.Sound.{IsSound}
-use Rattle.pool_rules.specs.State.{State, is_held, held_count, initial_state, state_after, state_of, set_last_used, last_used_after}
+use Rattle.pool_rules.specs.State.{State, is_resident, is_held, held_count, initial_state, state_after, state_of, set_last_used, last_used_after, is_loading}
 use Rattle.pool_rules.specs.Victim.{last_used_of}
 use Rattle.pool_rules.proofs.Flags.{get_or-set_cases}
 use Rattle.pool_rules.proofs.Lengths.{HasItemAPage}
 use Rattle.pool_tables.specs.Changes.{times}
-use Rattle.pool_tables.specs.PageRecords.{PageRecords, record_at, is_record_held}
+use Rattle.pool_tables.specs.PageRecords.{PageRecords, record_at, is_record_held, residents}
 use Rattle.pool_tables.specs.PoolPages.{loader_number, ArePagesOf}
+use Rattle.pool_tables.specs.declared.page_record.MakerId.{MakerId}
 use Rattle.pool_tables.specs.declared.page_record.PageRecord.{PageRecord}
 use Rattle.pool_tables.proofs.PageCounts.{one, count-least}
 use Rattle.pool_tables.proofs.PoolPages.{resident_of, resident-at, loading-at, last_used-at, is_some-mapped, times-upper}
@@ -72,6 +73,30 @@ uppers-room layout s table page bounds are below p =
       are.dependents p,
       bounds.counts.page_limit,
     )
+
+-- a page that is not being loaded has no loader
+pub loader-none : (layout : Layout) (s : State) (table : PageRecords) (page : ℕ) → ArePagesOf layout s table →
+    is_loading s page ≡ false → (record_at table.records page).loader ≡ None
+loader-none layout s table page are idle =
+    none (record_at table.records page).loader (loading-at layout s table are page ∙ idle)
+  where
+    none : (loader : Option MakerId) → is_some loader ≡ false → loader ≡ None
+    none None h = refl
+    none (Some maker) h = cc
+
+filter-same : (f g : ℕ → Bool) (numbers : List ℕ) → ((n : ℕ) → f n ≡ g n) → filter f numbers ≡ filter g numbers
+filter-same f g [] same = refl
+filter-same f g (n ∷ numbers) same =
+    ap (λ b. cond b (n ∷ filter f numbers) (filter f numbers)) (same n)
+    ∙ ap (λ rest. cond (g n) (n ∷ rest) rest) (filter-same f g numbers same)
+
+-- the residents by the records are those of the state
+pub residents-same : (layout : Layout) (s : State) (table : PageRecords) → HasItemAPage layout s →
+    ArePagesOf layout s table → residents table.records ≡ filter (is_resident s) (page_numbers layout)
+residents-same layout s table lists are =
+    filter-same (λ page. (record_at table.records page).resident) (is_resident s)
+    (range_with_len 0 (length table.records)) (resident-at layout s table are)
+    ∙ ap (λ n. filter (is_resident s) (range_with_len 0 n)) (record-a_page layout s table lists are)
 
 -- ---- no use comes after the last entry
 
