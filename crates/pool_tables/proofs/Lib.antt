@@ -8,6 +8,7 @@ pub mod Openings
 pub mod PageCounts
 pub mod PageEvents
 pub mod PageRanges
+pub mod PageTimes
 pub mod PinnedPages
 pub mod PoolPages
 pub mod Searches
