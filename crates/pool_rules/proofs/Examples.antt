@@ -315,6 +315,10 @@ no_victim_first (suc (suc zero)) below h = cc
 no_victim_first (suc (suc (suc zero))) below h = cc
 no_victim_first (suc (suc (suc (suc q)))) below h = cc
 
+-- but not where page 1 may be
+pub no_victim_idle : HasNoVictim flat (state_of flat (idle [])) 3 → ⊥
+no_victim_idle none = none 1 (omega arith) refl
+
 -- page 1, which nobody pins, goes, and it stays once a frame pins it
 pub victim_unpinned : victim_after flat asked_1 3 ≡ Some 1
 victim_unpinned = refl
