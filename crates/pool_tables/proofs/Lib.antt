@@ -1,7 +1,16 @@
 pub mod Apart
 pub mod AscendingNumbers
+pub mod BegunFrames
 pub mod Changes
 pub mod Examples
+pub mod FlaggedPages
+pub mod FrameMeanings
+pub mod FrameNumbers
+pub mod ItemChanges
 pub mod Links
+pub mod Marks
+pub mod PinCounts
+pub mod Room
 pub mod Searches
+pub mod SnapshotLists
 pub mod UseOrder

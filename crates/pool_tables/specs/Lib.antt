@@ -1,5 +1,9 @@
 pub mod Changes
 pub mod Eviction
+pub mod FrameItems
+pub mod FrameMeaning
+pub mod FrameQueries
 pub mod Internal
 pub mod ListedPages
 pub mod PageRecords
+pub mod PinLists

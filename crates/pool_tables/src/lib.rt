@@ -1,4 +1,3 @@
-//! The tables of the page pool: what is kept of each page, of each frame and of the wants.
 //!
 //! Internal to `residency`; nothing here is public API. Each table is proved to say what the fold of the
 //! journal in `pool_rules` says of its part of the state.
@@ -7,11 +6,18 @@
 #![tactic(auto)]
 
 mod ascending;
+mod explicit_pins;
+mod frame_item;
+mod frames;
 mod page_list;
 mod page_record;
 mod page_table;
+mod snapshot;
 
-pub use ascending::is_among_ascending;
+pub use ascending::{is_among_ascending, place_among};
+pub use explicit_pins::ExplicitPins;
+pub use frame_item::{FrameId, FrameItem};
+pub use frames::FrameTable;
 pub use page_list::{PageList, PagesLeft};
 pub use page_record::{MakerId, NO_RECORD, PageRecord, is_in_snapshot};
 pub use page_table::PageTable;
