@@ -4,8 +4,10 @@ pub mod BegunFrames
 pub mod Changes
 pub mod Examples
 pub mod FlaggedPages
+pub mod FrameExamples
 pub mod FrameMeanings
 pub mod FrameNumbers
+pub mod InstalledWants
 pub mod ItemChanges
 pub mod Links
 pub mod Marks
@@ -13,4 +15,9 @@ pub mod PinCounts
 pub mod Room
 pub mod Searches
 pub mod SnapshotLists
+pub mod TableCounts
 pub mod UseOrder
+pub mod WaitedWants
+pub mod WantLists
+pub mod WantMeanings
+pub mod WantSearches

@@ -7,3 +7,5 @@ pub mod Internal
 pub mod ListedPages
 pub mod PageRecords
 pub mod PinLists
+pub mod WantMeaning
+pub mod WantQueue

@@ -1,3 +1,4 @@
+//! The tables of the page pool: what is kept of each page, of each frame and of the wants.
 //!
 //! Internal to `residency`; nothing here is public API. Each table is proved to say what the fold of the
 //! journal in `pool_rules` says of its part of the state.
@@ -12,7 +13,10 @@ mod frames;
 mod page_list;
 mod page_record;
 mod page_table;
+mod queued_want;
 mod snapshot;
+mod want_rules;
+mod wants;
 
 pub use ascending::{is_among_ascending, place_among};
 pub use explicit_pins::ExplicitPins;
@@ -21,3 +25,5 @@ pub use frames::FrameTable;
 pub use page_list::{PageList, PagesLeft};
 pub use page_record::{MakerId, NO_RECORD, PageRecord, is_in_snapshot};
 pub use page_table::PageTable;
+pub use queued_want::QueuedWant;
+pub use wants::WantList;
