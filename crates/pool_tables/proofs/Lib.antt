@@ -10,12 +10,14 @@ pub mod FrameNumbers
 pub mod InstalledWants
 pub mod ItemChanges
 pub mod Links
+pub mod MakerMeanings
 pub mod Marks
 pub mod PinCounts
 pub mod Room
 pub mod Searches
 pub mod SnapshotLists
 pub mod TableCounts
+pub mod TableStarts
 pub mod UseOrder
 pub mod WaitedWants
 pub mod WantLists

@@ -5,6 +5,8 @@ pub mod FrameMeaning
 pub mod FrameQueries
 pub mod Internal
 pub mod ListedPages
+pub mod MakerItems
+pub mod MakerMeaning
 pub mod PageRecords
 pub mod PinLists
 pub mod WantMeaning
