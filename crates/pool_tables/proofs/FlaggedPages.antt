@@ -1,5 +1,5 @@
 -- Flags of missing pages, and how often a page is in a list.
-use Rattle.std.proofs.Common.{◌≡◌, ℕ, zero, suc, ◌+◌, ◌<◌, ◌==◌, nat_lt, nat_le, List, [], ◌∷◌, ◌++◌, Bool, true, false, not, cond, ◌&&◌, ◌||◌, length, get_or, set, refl, sym, ap, ◌∙◌, arith, eq-eqb}
+use Rattle.std.proofs.Common.{◌≡◌, ℕ, zero, suc, ◌+◌, ◌<◌, ◌≤◌, ◌==◌, nat_lt, nat_le, List, [], ◌∷◌, ◌++◌, Bool, true, false, not, cond, ◌&&◌, ◌||◌, length, get_or, set, refl, sym, ap, ◌∙◌, arith, eq-eqb}
 use Rattle.std.proofs.lemmas.Bool.Decides.{nat_tests}
 use Rattle.std.proofs.lemmas.List.Sums.{sum_by-cons, sum_by-append}
 use Rattle.journal.specs.Layout.{ascends_from}
@@ -117,3 +117,32 @@ times-flag (p ∷ ps) (true ∷ flags) (suc i) page q len within here =
     omega (arith, times-cons p (flagged ps (set flags i true)) q, times-cons p (flagged ps flags) q, times-flag ps flags i page q (omega (arith, len)) (omega (arith, within)) here)
 times-flag (p ∷ ps) (false ∷ flags) (suc i) page q len within here =
     times-flag ps flags i page q (omega (arith, len)) (omega (arith, within)) here
+
+-- ---- a page is at most once among numbers that ascend
+
+pub times-ascending : (low : ℕ) (numbers : List ℕ) (p : ℕ) → ascends_from low numbers ≡ true → times numbers p ≤ 1
+times-ascending low [] p up = omega arith
+times-ascending low (n ∷ numbers) p up =
+    let parts = and-both (nat_le low n) (ascends_from (n + 1) numbers) up in
+    let rest = times-ascending (n + 1) numbers p parts.1 in
+    elim (n == p) as (λ b. (n == p) ≡ b → times (n ∷ numbers) p ≤ 1) [
+      | true ↦ λ e.
+          let same = same-eqb n p e in
+          let none = none-below (n + 1) numbers p parts.1 (omega (arith, same)) in
+          let test : nat_lt 0 (times numbers p) ≡ false = sym (among-times numbers p) ∙ none in
+          let no_more : times numbers p ≡ 0 = grind (arith, nat_tests) in
+          let first : ◌≡◌ {A = ℕ} (cond (n == p) 1 0) 1 = ap (λ b. cond b 1 0) e in
+          omega (arith, times-cons n numbers p, no_more, first)
+      | false ↦ λ e.
+          let first : ◌≡◌ {A = ℕ} (cond (n == p) 1 0) 0 = ap (λ b. cond b 1 0) e in
+          omega (arith, times-cons n numbers p, first, rest)
+    ] refl
+
+-- no page is flagged more often than it is missing
+pub times-flagged : (missing : List ℕ) (flags : List Bool) (p : ℕ) → times (flagged missing flags) p ≤ times missing p
+times-flagged [] flags p = omega arith
+times-flagged (q ∷ missing) [] p = omega arith
+times-flagged (q ∷ missing) (true ∷ flags) p =
+    omega (arith, times-cons q (flagged missing flags) p, times-cons q missing p, times-flagged missing flags p)
+times-flagged (q ∷ missing) (false ∷ flags) p =
+    omega (arith, times-cons q missing p, times-flagged missing flags p)

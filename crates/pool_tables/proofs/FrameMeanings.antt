@@ -7,7 +7,7 @@ use Rattle.std.specs.List.Sorted.{IsStrictlySortedBy}
 use Rattle.std.specs.Map.{keys_of}
 use Rattle.std.specs.Option.{option_map}
 use Rattle.std.specs.Ordering.{nat_cmp}
-use Rattle.journal.specs.Layout.{all_below}
+use Rattle.journal.specs.Layout.{all_below, ascends}
 use Rattle.pool_rules.specs.Frame.{Frame}
 use Rattle.pool_rules.specs.Numbers.{is_among}
 use Rattle.pool_rules.specs.State.{frame_after_install, marked, replace_frame, waits_for}
@@ -142,6 +142,18 @@ pub flags-at : (resident : List Bool) (installed_at : ℕ → ℕ) (frames : Lis
 flags-at resident installed_at frames items number item are at =
     flag_a_page resident installed_at (frame_at number frames) item (subst (λ (o : Option FrameItem). IsItemOf resident installed_at (frame_at number frames) o) at (are.items number))
 
+-- and its missing pages ascend
+missing_ascends : (resident : List Bool) (installed_at : ℕ → ℕ) (f : Option Frame) (item : FrameItem)
+    → IsItemOf resident installed_at f (Some item) → ascends item.pins.missing ≡ true
+missing_ascends resident installed_at None item is = ap (λ (pins : PinLists). ascends pins.missing) is.pins
+missing_ascends resident installed_at (Some f) item is = is.missing_ascend
+
+pub missing-at : (resident : List Bool) (installed_at : ℕ → ℕ) (frames : List Frame) (items : List (ℕ × FrameItem))
+    (number : ℕ) (item : FrameItem) → AreFrames resident installed_at frames items
+    → item_in items number ≡ Some item → ascends item.pins.missing ≡ true
+missing-at resident installed_at frames items number item are at =
+    missing_ascends resident installed_at (frame_at number frames) item (subst (λ (o : Option FrameItem). IsItemOf resident installed_at (frame_at number frames) o) at (are.items number))
+
 unset-len : (n m : ℕ) → n ≡ m → length (replicate n false) ≡ m
 unset-len n m same = length-replicate n false ∙ same
 
@@ -154,7 +166,7 @@ pub AreFrames-pin : (resident : List Bool) (installed_at : ℕ → ℕ) (frames 
     → AreFrames resident installed_at (replace_frame (record { number = number; owner = by.0; pins = resident }) frames) new
 AreFrames-pin resident installed_at frames old new number by count are live installed puts =
     let f : Frame = record { number = number; owner = by.0; pins = resident } in
-    AreFrames-put resident installed_at frames (replace_frame f frames) old new number (Some f) (Some (pinned_item by count (item_in old number))) are puts (AreDistinct-put f frames are.distinct) (λ n. frame_at-put n f frames) (pinned (item_in old number) live (λ item at. flags-at resident installed_at frames old number item are at))
+    AreFrames-put resident installed_at frames (replace_frame f frames) old new number (Some f) (Some (pinned_item by count (item_in old number))) are puts (AreDistinct-put f frames are.distinct) (λ n. frame_at-put n f frames) (pinned (item_in old number) live (λ item at. flags-at resident installed_at frames old number item are at) (λ item at. missing-at resident installed_at frames old number item are at))
   where
     covered : (p : ℕ) (b : Bool) → b ≡ (b && nat_le (installed_at p) count)
     covered p true = let below = installed p in let yes : nat_le (installed_at p) count ≡ true = grind (arith, nat_tests) in sym yes
@@ -162,13 +174,24 @@ AreFrames-pin resident installed_at frames old new number by count are live inst
 
     pinned : (o : Option FrameItem) → ((item : FrameItem) → o ≡ Some item → item.ended_at ≡ None)
         → ((item : FrameItem) → o ≡ Some item → length item.pins.flags ≡ length item.pins.missing)
+        → ((item : FrameItem) → o ≡ Some item → ascends item.pins.missing ≡ true)
         → IsFrameItem resident installed_at (record { number = number; owner = by.0; pins = resident }) (pinned_item by count o)
-    pinned None alive flags = record { live = refl; owner = refl; pin_a_page = refl; flag_a_page = refl; pins = λ p. covered p (get_or resident p false) }
-    pinned (Some item) alive flags = record {
+    pinned None alive flags ascending = record {
+      live = refl;
+      owner = refl;
+      pin_a_page = refl;
+      flag_a_page = refl;
+      named_ascend = refl;
+      missing_ascend = refl;
+      pins = λ p. covered p (get_or resident p false);
+    }
+    pinned (Some item) alive flags ascending = record {
       live = alive item refl;
       owner = refl;
       pin_a_page = refl;
       flag_a_page = unset-len (length item.pins.flags) (length item.pins.missing) (flags item refl);
+      named_ascend = refl;
+      missing_ascend = ascending item refl;
       pins = λ p. covered p (get_or resident p false) ∙ ap (λ b. b || (get_or resident p false && nat_le (installed_at p) count)) (sym (among-unflagged [] item.pins.missing (length item.pins.flags) p));
     }
 
@@ -181,10 +204,10 @@ explicit resident pages missing n p below =
 -- after a Settle the frame pins its pages
 pub AreFrames-settle : (resident : List Bool) (installed_at : ℕ → ℕ) (frames : List Frame) (old new : List (ℕ × FrameItem)) (number : ℕ) (by : MakerId) (count : ℕ) (pages missing : List ℕ) (f : Frame)
     → AreFrames resident installed_at frames old → frame_at number frames ≡ Some f
-    → all_below (length resident) pages ≡ true
+    → all_below (length resident) pages ≡ true → ascends pages ≡ true → ascends missing ≡ true
     → PutsItem number (option_map (settled_item by count (settled_pins pages missing)) (item_in old number)) old new
     → AreFrames resident installed_at (replace_frame (record { number = number; owner = by.0; pins = marked (length resident) pages }) frames) new
-AreFrames-settle resident installed_at frames old new number by count pages missing f are at below puts =
+AreFrames-settle resident installed_at frames old new number by count pages missing f are at below pages_ascend missing_ascend puts =
     let now : Frame = record { number = number; owner = by.0; pins = marked (length resident) pages } in
     let found = at-frame resident installed_at frames old number f are at in
     AreFrames-put resident installed_at frames (replace_frame now frames) old new number (Some now) (option_map (settled_item by count (settled_pins pages missing)) (item_in old number)) are puts (AreDistinct-put now frames are.distinct) (λ n. frame_at-put n now frames)
@@ -193,16 +216,18 @@ AreFrames-settle resident installed_at frames old new number by count pages miss
       owner = refl;
       pin_a_page = length-marked (length resident) pages;
       flag_a_page = length-replicate (length missing) false;
+      named_ascend = pages_ascend;
+      missing_ascend = missing_ascend;
       pins = λ p. explicit resident pages missing (length missing) p below;
     }))
 
 -- after a Narrow the frame pins its pages
 pub AreFrames-narrow : (resident : List Bool) (installed_at : ℕ → ℕ) (frames : List Frame) (old new : List (ℕ × FrameItem)) (number : ℕ) (by : MakerId) (pages : List ℕ) (f : Frame)
     → AreFrames resident installed_at frames old → frame_at number frames ≡ Some f
-    → all_below (length resident) pages ≡ true
+    → all_below (length resident) pages ≡ true → ascends pages ≡ true
     → PutsItem number (option_map (narrowed_item by pages) (item_in old number)) old new
     → AreFrames resident installed_at (replace_frame (record { number = number; owner = by.0; pins = marked (length resident) pages }) frames) new
-AreFrames-narrow resident installed_at frames old new number by pages f are at below puts =
+AreFrames-narrow resident installed_at frames old new number by pages f are at below pages_ascend puts =
     let now : Frame = record { number = number; owner = by.0; pins = marked (length resident) pages } in
     let found = at-frame resident installed_at frames old number f are at in
     let item = found.0 in
@@ -212,6 +237,8 @@ AreFrames-narrow resident installed_at frames old new number by pages f are at b
       owner = refl;
       pin_a_page = length-marked (length resident) pages;
       flag_a_page = unset-len (length item.pins.flags) (length item.pins.missing) found.2.flag_a_page;
+      named_ascend = pages_ascend;
+      missing_ascend = found.2.missing_ascend;
       pins = λ p. explicit resident pages item.pins.missing (length item.pins.flags) p below;
     }))
 
@@ -233,7 +260,7 @@ AreFrames-ask resident installed_at frames old new number count are puts =
     asked None None is = tt
     asked None (Some item) is = record { ended = is.ended; snapshot = is.snapshot; pins = is.pins }
     asked (Some f) None is = is
-    asked (Some f) (Some item) is = record { live = is.live; owner = is.owner; pin_a_page = is.pin_a_page; flag_a_page = is.flag_a_page; pins = is.pins }
+    asked (Some f) (Some item) is = record { live = is.live; owner = is.owner; pin_a_page = is.pin_a_page; flag_a_page = is.flag_a_page; named_ascend = is.named_ascend; missing_ascend = is.missing_ascend; pins = is.pins }
 
 -- an Unpin ends the frame
 pub AreFrames-unpin : (resident : List Bool) (installed_at : ℕ → ℕ) (frames : List Frame) (old new : List (ℕ × FrameItem)) (number count : ℕ)
@@ -287,6 +314,8 @@ AreFrames-evict resident installed_at frames items victim are unpinned = record 
       owner = is.owner;
       pin_a_page = is.pin_a_page ∙ sym (length-set resident victim false);
       flag_a_page = is.flag_a_page;
+      named_ascend = is.named_ascend;
+      missing_ascend = is.missing_ascend;
       pins = pins f item (unpins f refl) is;
     }
 
@@ -344,6 +373,8 @@ AreFrames-install resident installed_at installed_now frames wants old new page 
           owner = is.owner;
           pin_a_page = length-set f.pins page true ∙ (is.pin_a_page ∙ sym (length-set resident page true));
           flag_a_page = length-with_flag page item.pins.missing item.pins.flags is.flag_a_page;
+          named_ascend = is.named_ascend;
+          missing_ascend = is.missing_ascend;
           pins = λ p. bits f (set f.pins page true) item (installed_item page item) refl p
               (λ same. get_or-set_same f.pins page true false room ∙ sym has)
               (λ other. get_or-set_other f.pins page p true false other)
@@ -358,6 +389,8 @@ AreFrames-install resident installed_at installed_now frames wants old new page 
       owner = is.owner;
       pin_a_page = is.pin_a_page ∙ sym (length-set resident page true);
       flag_a_page = is.flag_a_page;
+      named_ascend = is.named_ascend;
+      missing_ascend = is.missing_ascend;
       pins = λ p. bits f f.pins item item refl p (λ same. unpinned f item is) (λ other. refl) (λ other. refl) uncovered is;
     }
 

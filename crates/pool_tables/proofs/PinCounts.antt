@@ -1,5 +1,5 @@
 -- What the count of explicit pins of a page tells, and which pages some live frame pins.
-use Rattle.std.proofs.Common.{◌≡◌, ℕ, ◌+◌, ◌<◌, ◌≤◌, ◌==◌, nat_cmp, nat_lt, List, [], ◌∷◌, Bool, true, false, cond, ◌&&◌, ◌||◌, ⊎_elim, Option, Some, None, get_or, refl, sym, ap, ◌∙◌, subst, arith, eq-eqb, is_some}
+use Rattle.std.proofs.Common.{◌≡◌, ℕ, zero, suc, ◌*◌, length, ◌+◌, ◌<◌, ◌≤◌, ◌==◌, nat_cmp, nat_lt, List, [], ◌∷◌, Bool, true, false, not, cond, ◌&&◌, ◌||◌, ⊎_elim, Option, Some, None, get_or, refl, sym, ap, ◌∙◌, subst, arith, eq-eqb, is_some}
 use Rattle.std.proofs.lemmas.Bool.Decides.{nat_tests}
 use Rattle.std.proofs.lemmas.List.Sums.{sum_by-cons}
 use Rattle.std.specs.BTreeMap.{is_at}
@@ -8,6 +8,7 @@ use Rattle.std.specs.List.Sorted.{IsStrictlySortedBy}
 use Rattle.std.specs.Map.{keys_of, values_of}
 use Rattle.std.specs.Ordering.{is_eq}
 use Rattle.std.specs.declared.cmp.Ordering.TheVariants.{Less}
+use Rattle.journal.specs.Layout.{ascends}
 use Rattle.pool_rules.specs.Frame.{Frame}
 use Rattle.pool_rules.specs.Numbers.{is_among}
 use Rattle.pool_rules.specs.Rules.{owns, pins}
@@ -19,9 +20,11 @@ use Rattle.pool_tables.specs.Eviction.{is_in_snapshot}
 use Rattle.pool_tables.specs.FrameItems.{IsLatest, item_in, pin_count, snapshot_in}
 use Rattle.pool_tables.specs.FrameMeaning.{AreFrames, IsFrameItem, IsItemOf, frame_at}
 use Rattle.pool_tables.specs.FrameQueries.{is_live_in, is_owned, pins_page}
-use Rattle.pool_tables.specs.PinLists.{PinLists, pinned_pages}
+use Rattle.pool_tables.specs.PageRecords.{record_at}
+use Rattle.pool_tables.specs.PinLists.{PinLists, flagged, pinned_pages}
+use Rattle.pool_tables.specs.declared.page_record.PageRecord.{PageRecord}
 use Rattle.pool_tables.specs.declared.frame_item.FrameItem.{FrameItem}
-use Rattle.pool_tables.proofs.FlaggedPages.{among-times}
+use Rattle.pool_tables.proofs.FlaggedPages.{among-times, times-append, times-ascending, times-flagged}
 use Rattle.pool_tables.proofs.FrameMeanings.{at-frame}
 use Rattle.pool_tables.proofs.FrameNumbers.{any-found, any-numbered, found-any, has_number-found, passes}
 use Rattle.pool_tables.proofs.ItemChanges.{is_at-eqb}
@@ -54,6 +57,13 @@ key-of P (e ∷ items) n item all at =
       | false ↦ λ no k. key-of P items n item all.1 k
     ] refl at
 
+-- a key after another is another
+apart : (a b : ℕ) → nat_cmp a b ≡ Less → is_at (nat_cmp b) a ≡ false
+apart a b less = elim (is_at (nat_cmp b) a) as (λ t. is_at (nat_cmp b) a ≡ t → t ≡ false) [
+  | true ↦ λ yes. let same = same-eqb b a (sym (is_at-eqb b a) ∙ yes) in let no : is_at (nat_cmp a) b ≡ false = ap is_eq less in let is : is_at (nat_cmp a) b ≡ true = is_at-eqb a b ∙ eq-eqb a b (sym same) in cc
+  | false ↦ λ no. refl
+] refl
+
 -- a count above none is of some frame's item
 pub pin_count-some : (items : List (ℕ × FrameItem)) (page : ℕ) → IsStrictlySortedBy nat_cmp (keys_of items)
     → 0 < pin_count items page
@@ -69,12 +79,37 @@ pin_count-some (e ∷ items) page ordered some =
           let above = key-of (λ k. nat_cmp e.0 k ≡ Less) items found.0 found.1 ordered.0 found.2 in
           (found.0, found.1, ap (λ b. cond b (Some e.1) (item_in items found.0)) (apart e.0 found.0 above) ∙ found.2, found.3)
     ] refl
+
+-- an item counts a page at most twice
+counted-most : (item : FrameItem) (page : ℕ) → ascends item.pins.named ≡ true → ascends item.pins.missing ≡ true
+    → counted page item ≤ 2
+counted-most item page named missing =
+    omega (arith, times-append item.pins.named (flagged item.pins.missing item.pins.flags) page, times-ascending 0 item.pins.named page named, times-flagged item.pins.missing item.pins.flags page, times-ascending 0 item.pins.missing page missing)
+
+sum-most : (items : List (ℕ × FrameItem)) (page : ℕ) → IsStrictlySortedBy nat_cmp (keys_of items)
+    → ((n : ℕ) (item : FrameItem) → item_in items n ≡ Some item → counted page item ≤ 2)
+    → pin_count items page ≤ 2 * length items
+unfolding IsStrictlySortedBy
+sum-most [] page ordered few = omega arith
+sum-most (e ∷ items) page ordered few =
+    let here = few e.0 e.1 (ap (λ b. cond b (Some e.1) (item_in items e.0)) (is_at-eqb e.0 e.0 ∙ eq-eqb e.0 e.0 refl)) in
+    let rest = sum-most items page ordered.1 (λ n item at.
+    let above = key-of (λ k. nat_cmp e.0 k ≡ Less) items n item ordered.0 at in
+    few n item (ap (λ b. cond b (Some e.1) (item_in items n)) (apart e.0 n above) ∙ at)) in
+    let long : length (e ∷ items) ≡ length items + 1 = omega arith in
+    omega (arith, pin_count-cons e items page, here, rest, long)
+
+-- a count of explicit pins is at most twice the number of frames
+pub pin_count-most : (resident : List Bool) (installed_at : ℕ → ℕ) (frames : List Frame) (items : List (ℕ × FrameItem))
+    (page : ℕ) → AreFrames resident installed_at frames items → pin_count items page ≤ 2 * length items
+pin_count-most resident installed_at frames items page are =
+    sum-most items page are.ordered (λ n item at. few (frame_at n frames) item (subst (λ (o : Option FrameItem). IsItemOf resident installed_at (frame_at n frames) o) at (are.items n)))
   where
-    apart : (a b : ℕ) → nat_cmp a b ≡ Less → is_at (nat_cmp b) a ≡ false
-    apart a b less = elim (is_at (nat_cmp b) a) as (λ t. is_at (nat_cmp b) a ≡ t → t ≡ false) [
-      | true ↦ λ yes. let same = same-eqb b a (sym (is_at-eqb b a) ∙ yes) in let no : is_at (nat_cmp a) b ≡ false = ap is_eq less in let is : is_at (nat_cmp a) b ≡ true = is_at-eqb a b ∙ eq-eqb a b (sym same) in cc
-      | false ↦ λ no. refl
-    ] refl
+    few : (f : Option Frame) (item : FrameItem) → IsItemOf resident installed_at f (Some item) → counted page item ≤ 2
+    few None item is =
+        let none : counted page item ≡ 0 = ap (λ (pins : PinLists). times (pinned_pages pins) page) is.pins in
+        omega (arith, none)
+    few (Some f) item is = counted-most item page is.named_ascend is.missing_ascend
 
 -- ---- which pages are pinned
 
@@ -210,3 +245,21 @@ pins-item s installed_at items n page are live =
     pick None (Some item) is alive = let no : is_live_in (Some item) ≡ false = rw is.ended refl in cc
     pick (Some f) None is alive = absurd is
     pick (Some f) (Some item) is alive = is.pins page
+
+-- a resident page whose record counts its explicit pins is free of frames if no live frame pins it
+pub unpinned-record : (s : State) (items : List (ℕ × FrameItem)) (records : List PageRecord) (latest : Option ℕ) (page : ℕ)
+    → AreFrames s.resident (λ p. (record_at records p).installed_at) s.frames items → IsLatest items latest
+    → is_resident s page ≡ true → (record_at records page).pins ≡ pin_count items page
+    → (((record_at records page).pins == 0) && not (is_in_snapshot latest (record_at records page).installed_at))
+    ≡ not (is_pinned s page)
+unpinned-record s items records latest page are is_latest resident count =
+    ap (λ n. (n == 0) && not (is_in_snapshot latest (record_at records page).installed_at)) count
+    ∙ (neither (pin_count items page) (is_in_snapshot latest (record_at records page).installed_at)
+    ∙ ap not (sym (is_pinned-counted s (λ p. (record_at records p).installed_at) items latest page are is_latest resident)))
+  where
+    neither : (n : ℕ) (b : Bool) → ((n == 0) && not b) ≡ not (nat_lt 0 n || b)
+    neither zero b = refl
+    neither (suc n) b =
+        let some : nat_lt 0 (suc n) ≡ true = grind (arith, nat_tests) in
+        let other : (suc n == 0) ≡ false = grind (arith, nat_tests) in
+        rw (some, other) refl

@@ -4,6 +4,7 @@ use Rattle.std.specs.List.{list_any}
 use Rattle.std.specs.List.Sorted.{IsStrictlySortedBy}
 use Rattle.std.specs.Map.{keys_of}
 use Rattle.std.specs.Ordering.{nat_cmp}
+use Rattle.journal.specs.Layout.{ascends}
 use Rattle.journal.specs.declared.entries.Entry.{Entry}
 use Rattle.pool_rules.specs.Frame.{Frame}
 use Rattle.pool_rules.specs.Numbers.{is_among}
@@ -26,6 +27,8 @@ pub record IsFrameItem (resident : List Bool) (installed_at : ℕ → ℕ) (fram
   pub owner : item.owner.0 ≡ frame.owner
   pub pin_a_page : length frame.pins ≡ length resident
   pub flag_a_page : length item.pins.flags ≡ length item.pins.missing
+  pub named_ascend : ascends item.pins.named ≡ true
+  pub missing_ascend : ascends item.pins.missing ≡ true
   pub pins : (page : ℕ) → slice_index_or frame.pins page false ≡ item_pins resident installed_at item page
 
 -- the item is that of a frame that ended

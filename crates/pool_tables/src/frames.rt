@@ -1,4 +1,4 @@
-ghost use Rattle.std.specs.Prelude.{◌≡◌, ◌==◌, ◌+◌, ◌<◌, ◌&&◌, ℕ, IfOk, IfSome, OnErr, OnOk, Some, [], true, if◌then◌else◌};
+ghost use Rattle.std.specs.Prelude.{◌≡◌, ◌==◌, ◌+◌, ◌<◌, ◌^◌, ◌&&◌, ℕ, length, IfOk, IfSome, OnErr, OnOk, Some, [], true, if◌then◌else◌};
 ghost use Rattle.std.specs.Option.{option_copied, option_map};
 ghost use Rattle.journal.specs.Layout.{ascends};
 ghost use Rattle.pool_tables.specs.FrameItems.{IsLatest, PutsItem, asked_in, asked_item, ended_in, ended_item, installed_item, item_in, item_of, narrowed_item, pin_count, pinned_item, settled_item, snapshot_in};
@@ -165,6 +165,14 @@ impl FrameTable {
             snapshots: Vec::new(alloc),
             last_asked: 0,
         }
+    }
+
+    /// Returns how many frames began.
+    pub fn len(&self) -> usize
+        ensures frames { result ≡ length self.now.items }
+        ensures few { result < 2 ^ 63 }
+    {
+        self.items.len()
     }
 
     /// Returns the frame's item, if it began.
