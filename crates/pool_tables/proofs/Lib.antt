@@ -2,6 +2,7 @@ pub mod Apart
 pub mod AscendingNumbers
 pub mod BegunFrames
 pub mod Changes
+pub mod EventPremises
 pub mod Examples
 pub mod FlaggedPages
 pub mod FrameExamples
