@@ -14,6 +14,7 @@ pub mod Links
 pub mod MakerMeanings
 pub mod Marks
 pub mod PinCounts
+pub mod PinSteps
 pub mod Room
 pub mod Searches
 pub mod SnapshotLists

@@ -9,5 +9,6 @@ pub mod MakerItems
 pub mod MakerMeaning
 pub mod PageRecords
 pub mod PinLists
+pub mod PinMoves
 pub mod WantMeaning
 pub mod WantQueue
