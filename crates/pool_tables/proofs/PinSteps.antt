@@ -1,12 +1,12 @@
 -- Explicit pins of many pages, one page more.
-use Rattle.std.proofs.Common.{◌≡◌, ◌≢◌, ℕ, suc, ◌+◌, ◌-◌, ◌<◌, ◌≤◌, ◌==◌, nat_lt, List, [], ◌∷◌, Bool, true, false, cond, ⊎_elim, drop, get_or, length, set, refl, sym, ap, ◌∙◌, subst, arith, eq-eqb, length-set}
+use Rattle.std.proofs.Common.{◌≡◌, ◌≢◌, ℕ, suc, ◌+◌, ◌-◌, ◌<◌, ◌==◌, nat_lt, List, ◌∷◌, Bool, true, false, cond, ◌&&◌, ⊎_elim, drop, get_or, length, set, refl, sym, ap, ◌∙◌, subst, arith, eq-eqb, length-set}
 use Rattle.std.proofs.Math.Seq.{drop-cons}
 use Rattle.std.proofs.lemmas.Bool.{cases_eq}
 use Rattle.std.proofs.lemmas.Bool.Decides.{nat_tests}
-use Rattle.pool_rules.specs.Numbers.{is_among}
 use Rattle.pool_rules.proofs.Flags.{place-within}
 use Rattle.pool_tables.specs.Changes.{times}
 use Rattle.pool_tables.specs.PageRecords.{PageRecords, no_record, record_at, with_record}
+use Rattle.pool_tables.specs.PinLists.{flagged}
 use Rattle.pool_tables.specs.PinMoves.{MovesPins}
 use Rattle.pool_tables.specs.declared.page_record.PageRecord.{PageRecord}
 use Rattle.pool_tables.proofs.Apart.{ne-eqb}
@@ -65,20 +65,49 @@ MovesPins-step went came went_now came_now old now page pins moves below went_sa
           (cases_eq p page);
     }
 
--- no pins moved yet, or all did
-pub MovesPins-same : (went came : ℕ → ℕ) (table : PageRecords) → ((p : ℕ) → went p ≡ came p) → MovesPins went came table table
-MovesPins-same went came table same = record {
-  roots = refl;
-  len = refl;
-  others = λ p. refl;
-  pins = λ p. ap (λ n. (record_at table.records p).pins + n) (same p);
+-- one page less is flagged
+pub flagged-split : (missing : List ℕ) (flags : List Bool) (k p : ℕ) → length flags ≡ length missing → k < length missing
+    → times (flagged (drop k missing) (drop k flags)) p
+    ≡ cond (get_or flags k false && (get_or missing k 0 == p)) 1 0 + times (flagged (drop (k + 1) missing) (drop (k + 1) flags)) p
+flagged-split missing flags k p len within =
+    let e : suc k ≡ k + 1 = omega arith in
+    let within_flags : k < length flags = omega (arith, len, within) in
+    let pages : drop k missing ≡ get_or missing k 0 ∷ drop (k + 1) missing = drop-cons missing k 0 within ∙ ap (λ m. get_or missing k 0 ∷ drop m missing) e in
+    let marks : drop k flags ≡ get_or flags k false ∷ drop (k + 1) flags = drop-cons flags k false within_flags ∙ ap (λ m. get_or flags k false ∷ drop m flags) e in
+    ap (λ ps. times (flagged ps (drop k flags)) p) pages
+    ∙ (ap (λ bs. times (flagged (get_or missing k 0 ∷ drop (k + 1) missing) bs) p) marks ∙ pick (get_or flags k false))
+  where
+    pick : (b : Bool) → times (flagged (get_or missing k 0 ∷ drop (k + 1) missing) (b ∷ drop (k + 1) flags)) p
+        ≡ cond (b && (get_or missing k 0 == p)) 1 0 + times (flagged (drop (k + 1) missing) (drop (k + 1) flags)) p
+    pick true = times-cons (get_or missing k 0) (flagged (drop (k + 1) missing) (drop (k + 1) flags)) p
+    pick false = omega arith
+
+-- some pins go, and then some more
+pub MovesPins-more : (went came step left : ℕ → ℕ) (old now new : PageRecords) → MovesPins went came old now
+    → MovesPins step (λ p. 0) now new → ((p : ℕ) → came p ≡ step p + left p) → MovesPins went left old new
+MovesPins-more went came step left old now new moves more split = record {
+  roots = more.roots ∙ moves.roots;
+  len = more.len ∙ moves.len;
+  others = λ p. more.others p ∙ ap (λ (x : PageRecord). record x { pins = (record_at new.records p).pins }) (moves.others p);
+  pins = λ p. omega (arith, moves.pins p, more.pins p, split p);
 }
 
-pub MovesPins-alike : (went came went_now came_now : ℕ → ℕ) (old now : PageRecords) → MovesPins went came old now
-    → ((p : ℕ) → went_now p ≡ went p) → ((p : ℕ) → came_now p ≡ came p) → MovesPins went_now came_now old now
-MovesPins-alike went came went_now came_now old now moves went_same came_same = record {
-  roots = moves.roots;
-  len = moves.len;
-  others = moves.others;
-  pins = λ p. omega (arith, moves.pins p, went_same p, came_same p);
+pub MovesPins-both : (first second went : ℕ → ℕ) (old now new : PageRecords) → MovesPins first (λ p. 0) old now
+    → MovesPins second (λ p. 0) now new → ((p : ℕ) → went p ≡ first p + second p) → MovesPins went (λ p. 0) old new
+MovesPins-both first second went old now new moves more sum = record {
+  roots = more.roots ∙ moves.roots;
+  len = more.len ∙ moves.len;
+  others = λ p. more.others p ∙ ap (λ (x : PageRecord). record x { pins = (record_at new.records p).pins }) (moves.others p);
+  pins = λ p. omega (arith, moves.pins p, more.pins p, sum p);
 }
+
+-- no pins move
+pub MovesPins-none : (table : PageRecords) → MovesPins (λ p. 0) (λ p. 0) table table
+MovesPins-none table = record { roots = refl; len = refl; others = λ p. refl; pins = λ p. refl }
+
+-- the pins of one page, once less
+pub MovesPins-one : (table : PageRecords) (page : ℕ) → 0 < (record_at table.records page).pins
+    → MovesPins (λ p. cond (page == p) 1 0) (λ p. 0) table (with_record table page (record (record_at table.records page) { pins = (record_at table.records page).pins - 1 }))
+MovesPins-one table page some =
+    let one : ◌≡◌ {A = ℕ} (cond (page == page) 1 0) 1 = ap (λ b. cond b 1 0) (eq-eqb page page refl) in
+    MovesPins-step (λ p. 0) (λ p. 0) (λ p. cond (page == p) 1 0) (λ p. 0) table table page ((record_at table.records page).pins - 1) (MovesPins-none table) (pinned-below table.records page some) (λ p other. ap (λ b. cond b 1 0) (ne-eqb page p (λ e. other (sym e)))) (λ p other. refl) (omega (arith, one, some))

@@ -28,6 +28,6 @@ pub use makers::MakerTable;
 pub use page_list::{PageList, PagesLeft};
 pub use page_record::{MakerId, NO_RECORD, PageRecord, is_in_snapshot};
 pub use page_table::PageTable;
-pub use pin_moves::{pin_each, unpin_each};
+pub use pin_moves::{pin_each, unpin_item};
 pub use queued_want::QueuedWant;
 pub use wants::WantList;
