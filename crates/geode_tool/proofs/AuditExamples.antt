@@ -5,7 +5,6 @@ use Rattle.std.specs.List.{join_with_byte}
 use Rattle.hex.specs.Hex.{decode_pairs}
 use Rattle.journal.specs.Grammar.{number_of, digest_of, single_number_of, frame_and_pages_of, pages_until_missing_of, settle_of, take_of, install_of, fail_of, spoilt_digest_of, spoilt_grammar_of, spoilt_short_of, spoilt_of, spoil_of, event_without_list_of, event_of, entry_of, layout_of, with_upper, with_entry, with_line, with_all_uppers}
 use Rattle.geode_tool.specs.declared.commands.Command.TheVariants.{Audit}
-use Rattle.geode_tool.specs.declared.faults.Done.TheVariants.{Audited}
 use Rattle.geode_tool.specs.declared.faults.Fault.TheVariants.{BadJournal, Illegal}
 use Rattle.geode_tool.specs.Audit.{audit_answer, verdict_text}
 use Rattle.geode_tool.specs.Words.{command_words, draw_words}
@@ -44,7 +43,7 @@ shared =
     ∷ codes "0 settle 0 pages 0 missing 1 2" ∷ []
 
 -- each page after its uppers
-pub audit_answer-loaded : audit_answer (text_of (shared ++ load (codes "1") ++ load (codes "2"))) ≡ Ok (Audited 6)
+pub audit_answer-loaded : audit_answer (text_of (shared ++ load (codes "1") ++ load (codes "2"))) ≡ Ok 6
 unfolding reading
 audit_answer-loaded = refl
 
@@ -54,7 +53,7 @@ unfolding reading
 audit_answer-too_soon = refl
 
 -- a layout alone, no bytes, a leading zero
-pub audit_answer-layout : audit_answer (codes "layout 1 1 1") ≡ Ok (Audited 0)
+pub audit_answer-layout : audit_answer (codes "layout 1 1 1") ≡ Ok 0
 unfolding reading
 audit_answer-layout = refl
 
@@ -67,7 +66,7 @@ unfolding reading
 audit_answer-zero_first = refl
 
 -- comments are no entries, and count as lines
-pub audit_answer-report : audit_answer (text_of (codes "# frame 0" ∷ codes "layout 1 1 1" ∷ codes "#" ∷ codes "0 stop" ∷ [])) ≡ Ok (Audited 1)
+pub audit_answer-report : audit_answer (text_of (codes "# frame 0" ∷ codes "layout 1 1 1" ∷ codes "#" ∷ codes "0 stop" ∷ [])) ≡ Ok 1
 unfolding reading
 audit_answer-report = refl
 

@@ -8,3 +8,4 @@ pub mod DrawnItems
 pub mod NumberParts
 pub mod Numerals
 pub mod WordExamples
+pub mod Promise

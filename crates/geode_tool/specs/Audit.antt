@@ -1,30 +1,36 @@
--- The answer of `audit` for a text, and what it writes.
-use Rattle.std.specs.Prelude.{◌≡◌, nat_le, ℕ, List, [], ◌∷◌, ◌++◌, length, codes, Option, Some, None, IfSome, Result, Ok, Err, if◌then◌else◌}
+-- `audit`: its verdict on the input, what a success is, and how far it reads before a refusal.
+use Rattle.std.specs.Prelude.{◌≡◌, ◌+◌, ◌≤◌, nat_le, ℕ, List, [], ◌∷◌, ◌++◌, length, drop, codes, Option, Some, None, option_map, Result, Ok, Err, if◌then◌else◌}
 use Rattle.std.specs.Fmt.{decimal}
 use Rattle.geom_core.specs.declared.limits.TheConstants.{MAX_JOURNAL_BYTES}
-use Rattle.span_io.specs.Faults.{Rose}
 use Rattle.journal.specs.Grammar.{journal_of}
 use Rattle.pool_rules.specs.Rules.{first_refused}
 use Rattle.journal.specs.declared.journals.Journal.{Journal}
+use Rattle.span_io.specs.Reads.{Consumed, ReadToEnd}
 use Rattle.span_io.specs.Texts.{IsText}
 use Rattle.geode_tool.specs.declared.faults.Done.{Done}
 use Rattle.geode_tool.specs.declared.faults.Done.TheVariants.{Audited}
 use Rattle.geode_tool.specs.declared.faults.Fault.{Fault}
-use Rattle.geode_tool.specs.declared.faults.Fault.TheVariants.{Usage, ReadFault, TooLong, BadObj, TooMany, Empty, BadJournal, Illegal, WriteFault, Memory}
+use Rattle.geode_tool.specs.declared.faults.Fault.TheVariants.{ReadFault, TooLong, BadJournal, Illegal, WriteFault}
+use Rattle.geode_tool.specs.Inputs.{Inputs}
+use Rattle.geode_tool.specs.Verdicts.{Verdict, verdict_from, verdict_on}
 
 -- the number of entries if none is refused, else the index of the first refused entry
-abbrev pub verdict_of : Option ℕ → ℕ → Result Done Fault
-verdict_of None entries = Ok (Audited entries)
-verdict_of (Some place) entries = Err (Illegal place)
+abbrev pub counted : Option ℕ → ℕ → Result ℕ Fault
+counted None entries = Ok entries
+counted (Some entry) entries = Err (Illegal entry)
 
--- the verdict on a journal, or its first line outside the grammar
-abbrev pub judged : Result Journal ℕ → Result Done Fault
-judged (Ok journal) = verdict_of (first_refused journal.layout journal.entries) (length journal.entries)
+-- the number of a journal's allowed entries, or the first line outside the grammar
+abbrev pub judged : Result Journal ℕ → Result ℕ Fault
+judged (Ok journal) = counted (first_refused journal.layout journal.entries) (length journal.entries)
 judged (Err line) = Err (BadJournal line)
 
--- the answer of `audit`: a text of more than MAX_JOURNAL_BYTES is too long, whatever its lines are
-unfoldable pub audit_answer : List ℕ → Result Done Fault
+-- the number of entries of a legal journal, or the fault: more than MAX_JOURNAL_BYTES are too long, whatever they are
+unfoldable pub audit_answer : List ℕ → Result ℕ Fault
 audit_answer text = if nat_le (length text) MAX_JOURNAL_BYTES then judged (journal_of text) else Err TooLong
+
+-- the text of a legal journal is accepted
+abbrev pub audit_verdict : Inputs → Verdict
+audit_verdict inputs = verdict_on (λ text. verdict_from (audit_answer text)) inputs.text
 
 -- what `audit` writes for a legal journal: `legal`, a space, the number of entries, and a line feed
 unfoldable pub verdict_text : ℕ → List ℕ
@@ -35,37 +41,26 @@ verdict_text entries = codes "legal " ++ decimal entries ++ 10 ∷ []
 pub record IsAudited (input : Option (List ℕ)) (entries : ℕ) : Type 0 where
   pub text : List ℕ
   pub is_text : IsText input text
-  pub legal : audit_answer text ≡ Ok (Audited entries)
+  pub legal : audit_answer text ≡ Ok entries
 
--- the verdict on the journal of the input, or on some journal if the input's bytes are not known
-pub record IsVerdict (input : Option (List ℕ)) (text : List ℕ) : Type 0 where
+-- what a success is, and the text that it writes
+pub record DoesAudit (inputs : Inputs) (done : Done) (text : List ℕ) : Type 0 where
   pub entries : ℕ
-  pub audited : IsAudited input entries
+  pub audited : IsAudited inputs.text entries
+  pub told : done ≡ Audited entries
   pub shown : text ≡ verdict_text entries
 
--- what a fault of judging says of the text
-abbrev pub JudgeRefused : List ℕ → Fault → Type 0
-JudgeRefused text (Usage kind) = ⊥
-JudgeRefused text ReadFault = ⊥
-JudgeRefused text TooLong = ⊥
-JudgeRefused text (BadObj line why) = ⊥
-JudgeRefused text TooMany = ⊥
-JudgeRefused text Empty = ⊥
-JudgeRefused text (BadJournal line) = audit_answer text ≡ Err (BadJournal line)
-JudgeRefused text (Illegal entry) = audit_answer text ≡ Err (Illegal entry)
-JudgeRefused text WriteFault = ⊥
-JudgeRefused text Memory = Unit {0}
+-- the bytes that were read are at most MAX_JOURNAL_BYTES
+pub record ReadsWithin (left new_left : Option (List ℕ)) : Type 0 where
+  pub bytes : List ℕ
+  pub consumed : Consumed left new_left bytes
+  pub limited : length bytes ≤ MAX_JOURNAL_BYTES
 
--- what a fault before the first write says of the input: of its bytes, if they are known, and of its count
--- of faults
-abbrev pub AuditRefused : Option (List ℕ) → ℕ → ℕ → Fault → Type 0
-AuditRefused input faults new_faults (Usage kind) = ⊥
-AuditRefused input faults new_faults ReadFault = Rose faults new_faults
-AuditRefused input faults new_faults TooLong = IfSome input (λ text. audit_answer text ≡ Err TooLong)
-AuditRefused input faults new_faults (BadObj line why) = ⊥
-AuditRefused input faults new_faults TooMany = ⊥
-AuditRefused input faults new_faults Empty = ⊥
-AuditRefused input faults new_faults (BadJournal line) = IfSome input (λ text. audit_answer text ≡ Err (BadJournal line))
-AuditRefused input faults new_faults (Illegal entry) = IfSome input (λ text. audit_answer text ≡ Err (Illegal entry))
-AuditRefused input faults new_faults WriteFault = ⊥
-AuditRefused input faults new_faults Memory = Unit {0}
+-- How far the input was read before a refusal: a read fails only within the limit, a text that is too long is read to
+-- the first byte too many, and a journal is judged, and anything written, once all of it was read.
+pub record AuditReadsUpTo (left new_left : Option (List ℕ)) (fault : Fault) : Type 0 where
+  pub failed : fault ≡ ReadFault → ReadsWithin left new_left
+  pub too_long : fault ≡ TooLong → new_left ≡ option_map (drop (MAX_JOURNAL_BYTES + 1)) left
+  pub bad_journal : (line : ℕ) → fault ≡ BadJournal line → ReadToEnd left new_left
+  pub illegal : (entry : ℕ) → fault ≡ Illegal entry → ReadToEnd left new_left
+  pub writing : fault ≡ WriteFault → ReadToEnd left new_left

@@ -1,7 +1,12 @@
 pub mod Audit
 pub mod Commands
 pub mod Draw
+pub mod FaultTable
 pub mod Faults
+pub mod Headline
+pub mod Inputs
+pub mod Internal
 pub mod Outputs
 pub mod Statuses
+pub mod Verdicts
 pub mod Words

@@ -1,5 +1,6 @@
 -- The exit status of each fault.
-use Rattle.std.specs.Prelude.{ℕ}
+use Rattle.std.specs.Prelude.{ℕ, Result, Ok, Err}
+use Rattle.geode_tool.specs.declared.faults.Done.{Done}
 use Rattle.geode_tool.specs.declared.faults.Fault.{Fault}
 use Rattle.geode_tool.specs.declared.faults.Fault.TheVariants.{Usage, ReadFault, TooLong, BadObj, TooMany, Empty, BadJournal, Illegal, WriteFault, Memory}
 
@@ -15,3 +16,8 @@ status_of TooMany = 8
 status_of TooLong = 9
 status_of (BadJournal line) = 11
 status_of (Illegal entry) = 17
+
+-- the exit status of a program that ends with this answer
+abbrev pub exit_status_of : Result Done Fault → ℕ
+exit_status_of (Ok done) = 0
+exit_status_of (Err fault) = status_of fault

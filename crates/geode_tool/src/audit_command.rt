@@ -1,12 +1,10 @@
-ghost use Rattle.std.specs.Prelude.{◌≡◌, ◌≢◌, ◌≤◌, ℕ, true, length, Ok, Err, string_bytes, IfOk, IfErr, OnOk};
+ghost use Rattle.std.specs.Prelude.{◌≡◌, ◌≤◌, length, Ok, string_bytes, IfOk, IfErr, OnOk};
 ghost use Rattle.geom_core.specs.declared.limits.TheConstants.{MAX_JOURNAL_BYTES};
-ghost use Rattle.span_io.specs.Faults.{Rose};
-ghost use Rattle.span_io.specs.Puts.{Appended};
-ghost use Rattle.geode_tool.specs.Audit.{audit_answer, verdict_text, IsAudited, IsVerdict};
-ghost use Rattle.geode_tool.specs.Audit.{AuditRefused, JudgeRefused};
-ghost use Rattle.geode_tool.specs.Commands.{AnswersOrFails, may_refuse};
-ghost use Rattle.geode_tool.specs.Outputs.{WritesPrefix};
 ghost use Rattle.span_io.specs.Reads.{ReadToEnd};
+ghost use Rattle.geode_tool.specs.Audit.{audit_answer, verdict_text, IsAudited};
+ghost use Rattle.geode_tool.specs.Headline.{Holds};
+ghost use Rattle.geode_tool.specs.Inputs.{inputs_of, streams};
+ghost use Rattle.geode_tool.specs.Internal.Unwritten.{JudgeRefuses, StopsUnwritten};
 ghost use Rattle.geode_tool.specs.declared.commands.Command.TheVariants as Command;
 
 use crate::faults::{Done, Fault};
@@ -24,26 +22,11 @@ pub(crate) fn audit<S: Source, K: Sink>(
     input: &mut S,
     out: &mut K,
 ) -> Result<Done, Fault>
-    ensures answered { AnswersOrFails audit_answer (S.left input.old) result }
-    ensures audited { (entries : ℕ) → result ≡ Ok (Done.Audited entries)
-        → IsAudited (S.left input.old) entries }
-    ensures verdict { (entries : ℕ) → result ≡ Ok (Done.Audited entries)
-        → Appended (K.written out.old) (K.written out.new) (verdict_text entries) }
-    ensures success_kind { result ≢ Ok Done.Drawn }
-    ensures input_read { OnOk result (ReadToEnd (S.left input.old) (S.left input.new)) }
-    ensures flushed { OnOk result (K.flushed out.new ≡ true) }
-
-    ensures refusals { IfErr result (λ fault. may_refuse Command.Audit fault ≡ true) }
-    ensures read_fault { result ≡ Err Fault.ReadFault
-        → Rose (S.faults input.old) (S.faults input.new) }
-    ensures write_fault { result ≡ Err Fault.WriteFault
-        → Rose (K.faults out.old) (K.faults out.new) }
-    ensures prefix { result ≡ Err Fault.WriteFault → WritesPrefix (IsVerdict (S.left input.old))
-        (K.written out.old) (K.written out.new) }
-    ensures output_unchanged { IfErr result (λ fault. fault ≢ Fault.WriteFault → out.new ≡ out.old) }
-
-    ensures input_fault_count { S.faults input.old ≤ S.faults input.new }
-    ensures output_fault_count { K.faults out.old ≤ K.faults out.new }
+    ensures promise { Holds Command.Audit
+        (streams (S.left input.old) (S.faults input.old)
+        (K.written out.old) (K.flushed out.old) (K.faults out.old) out.old)
+        (streams (S.left input.new) (S.faults input.new)
+        (K.written out.new) (K.flushed out.new) (K.faults out.new) out.new) result }
 {
     let entries = legal_entries(alloc, input)?;
     let verdict = verdict_text(alloc, entries)?;
@@ -55,9 +38,11 @@ pub(crate) fn audit<S: Source, K: Sink>(
 fn legal_entries<S: Source>(alloc: Global, input: &mut S) -> Result<u64, Fault>
     ensures legal { IfOk result (IsAudited (S.left input.old)) }
     ensures input_read { OnOk result (ReadToEnd (S.left input.old) (S.left input.new)) }
+    ensures no_fault { OnOk result (S.faults input.new ≡ S.faults input.old) }
 
-    ensures refused { IfErr result
-        (AuditRefused (S.left input.old) (S.faults input.old) (S.faults input.new)) }
+    ensures refused { IfErr result (StopsUnwritten Command.Audit
+        (inputs_of (S.left input.old)) (inputs_of (S.left input.new))
+        (S.faults input.old) (S.faults input.new)) }
     ensures fault_count { S.faults input.old ≤ S.faults input.new }
 {
     let text = read_text(alloc, input, MAX_JOURNAL_BYTES as usize)?;
@@ -68,8 +53,8 @@ fn legal_entries<S: Source>(alloc: Global, input: &mut S) -> Result<u64, Fault>
 fn entries_of(alloc: Global, text: &[u8]) -> Result<u64, Fault>
     requires { length text.now ≤ MAX_JOURNAL_BYTES }
     ensures legal { IfOk result
-        (λ entries. audit_answer text.now ≡ Ok (Done.Audited entries)) }
-    ensures refused { IfErr result (JudgeRefused text.now) }
+        (λ entries. audit_answer text.now ≡ Ok entries) }
+    ensures refused { IfErr result (JudgeRefuses text.now) }
 {
     let Journal { layout, entries } = read_journal(alloc, text)?;
     let pool = Pool::replay(alloc, layout, entries.into_vec())?;

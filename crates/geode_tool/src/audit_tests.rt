@@ -1,5 +1,4 @@
 use crate::tests::{Calls, SOUND, run};
-use crate::{Done, Fault};
 use std::test::Fail;
 
 /// Two pages are loaded, the second after the page that it depends on.
@@ -61,19 +60,24 @@ fn legal_journals_are_counted(rt: HostRuntime) -> Result<(), Fail> {
     let alloc = rt.alloc();
     let last_taken = format!(in alloc; "{CROWDED}1 take 1 5 4")?;
     let cases = [
-        ("a layout alone", "layout 1 1 1", 0, "legal 0\n"),
-        ("pages after their dependencies", LOADED, 6, "legal 6\n"),
+        ("a layout alone", "layout 1 1 1", "audited 0", "legal 0\n"),
+        (
+            "pages after their dependencies",
+            LOADED,
+            "audited 6",
+            "legal 6\n",
+        ),
         (
             "the least recently used page is evicted",
             last_taken.as_str(),
-            16,
+            "audited 16",
             "legal 16\n",
         ),
-        ("a report", REPORT, 2, "legal 2\n"),
+        ("a report", REPORT, "audited 2", "legal 2\n"),
     ];
-    for (name, text, entries, verdict) in cases {
+    for (name, text, said, verdict) in cases {
         let outcome = run(alloc, AUDIT, text, SOUND)?;
-        assert_eq!(rt; outcome.answer, Ok(Done::Audited { entries }), "{name}");
+        assert_eq!(rt; outcome.said.as_str(), said, "{name}");
         assert_eq!(rt; outcome.written.as_slice(), verdict.as_bytes(), "{name}");
     }
     Ok(())
@@ -87,66 +91,50 @@ fn the_first_fault_is_reported(rt: HostRuntime) -> Result<(), Fail> {
     let no_victim = format!(in alloc; "{CROWDED}1 take 1 5 -")?;
     let line_8 = format!(in alloc; "{REPORT}0 pins 0")?;
     let cases = [
-        ("no bytes", "", Fault::BadJournal { line: 1 }),
-        (
-            "a leading zero",
-            "layout 1 1 1\n0 pin 01",
-            Fault::BadJournal { line: 2 },
-        ),
-        (
-            "comments are lines",
-            line_8.as_str(),
-            Fault::BadJournal { line: 8 },
-        ),
+        ("no bytes", "", "journal line 1"),
+        ("a leading zero", "layout 1 1 1\n0 pin 01", "journal line 2"),
+        ("comments are lines", line_8.as_str(), "journal line 8"),
         (
             "a wrong line after a wrong entry",
             "layout 2 1 2\n0 stop\n0 stop\nstop",
-            Fault::BadJournal { line: 4 },
+            "journal line 4",
         ),
         (
             "an upper that isn't resident",
             TOO_SOON,
-            Fault::Illegal { entry: 2 },
+            "entry 2 not allowed",
         ),
         (
             "a victim that was used later",
             used_later.as_str(),
-            Fault::Illegal { entry: 15 },
+            "entry 15 not allowed",
         ),
-        (
-            "a pinned victim",
-            pinned.as_str(),
-            Fault::Illegal { entry: 15 },
-        ),
-        (
-            "no victim",
-            no_victim.as_str(),
-            Fault::Illegal { entry: 15 },
-        ),
+        ("a pinned victim", pinned.as_str(), "entry 15 not allowed"),
+        ("no victim", no_victim.as_str(), "entry 15 not allowed"),
         (
             "a frame that ended",
             "layout 2 1 2\n0 pin 0\n0 unpin 0\n0 pin 0\n",
-            Fault::Illegal { entry: 2 },
+            "entry 2 not allowed",
         ),
         (
             "another maker's frame",
             "layout 2 1 2\n0 pin 0\n1 unpin 0\n",
-            Fault::Illegal { entry: 1 },
+            "entry 1 not allowed",
         ),
         (
             "a second stop",
             "layout 2 1 2\n0 stop\n0 stop\n",
-            Fault::Illegal { entry: 1 },
+            "entry 1 not allowed",
         ),
         (
             "a failed load without a fault",
             "layout 2 1 2\n0 pin 0\n0 settle 0 pages 0 missing 1\n0 take 0 1 -\n0 fail 1 3 3\n",
-            Fault::Illegal { entry: 3 },
+            "entry 3 not allowed",
         ),
     ];
     for (name, text, fault) in cases {
         let outcome = run(alloc, AUDIT, text, SOUND)?;
-        assert_eq!(rt; outcome.answer, Err(fault), "{name}");
+        assert_eq!(rt; outcome.said.as_str(), fault, "{name}");
         assert!(rt; outcome.written.is_empty(), "{name}");
     }
     Ok(())
@@ -163,8 +151,8 @@ fn each_read_of_an_audit_fails(rt: HostRuntime) -> Result<(), Fail> {
         };
         let outcome = run(rt.alloc(), AUDIT, text, calls)?;
         assert_eq!(rt;
-            outcome.answer,
-            Err(Fault::ReadFault),
+            outcome.said.as_str(),
+            "input could not be read",
             "read {failing_read}"
         );
         assert!(rt; outcome.written.is_empty(), "read {failing_read}");
@@ -184,8 +172,8 @@ fn each_write_of_an_audit_fails(rt: HostRuntime) -> Result<(), Fail> {
         };
         let outcome = run(rt.alloc(), AUDIT, LOADED, calls)?;
         assert_eq!(rt;
-            outcome.answer,
-            Err(Fault::WriteFault),
+            outcome.said.as_str(),
+            "output could not be written",
             "write {failing_write}"
         );
         assert_eq!(rt; outcome.written.len() as u64, failing_write - 1);
@@ -201,15 +189,11 @@ fn each_write_of_an_audit_fails(rt: HostRuntime) -> Result<(), Fail> {
 #[test]
 fn audits_or_finds_no_memory(rt: HostRuntime) -> Result<(), Fail> {
     if let Ok(outcome) = run(rt.alloc(), AUDIT, LOADED, SOUND) {
-        match outcome.answer {
-            Ok(done) => {
-                assert_eq!(rt; done, Done::Audited { entries: 6 });
-                assert_eq!(rt; outcome.written.as_slice(), b"legal 6\n".as_slice());
-            }
-            Err(fault) => {
-                assert_eq!(rt; fault, Fault::Memory);
-                assert!(rt; outcome.written.is_empty());
-            }
+        if outcome.said.as_str() == "out of memory" {
+            assert!(rt; outcome.written.is_empty());
+        } else {
+            assert_eq!(rt; outcome.said.as_str(), "audited 6");
+            assert_eq!(rt; outcome.written.as_slice(), b"legal 6\n".as_slice());
         }
     }
     Ok(())

@@ -21,7 +21,7 @@ const CAMERA_DIGITS: usize = 11;
 
 /// A command of the program.
 #[derive(Clone, Copy, Debug, PartialEq, Eq)]
-pub(crate) enum Command {
+pub enum Command {
     /// `draw`: draws a mesh.
     Draw(DrawRequest),
     /// `audit`: checks whether each entry of a journal was allowed.
@@ -30,11 +30,11 @@ pub(crate) enum Command {
 
 /// The arguments of `draw`.
 #[derive(Clone, Copy, Debug, PartialEq, Eq)]
-pub(crate) struct DrawRequest {
+pub struct DrawRequest {
     /// The size of the picture.
-    pub(crate) size: Size,
+    pub size: Size,
     /// The camera that sees the mesh.
-    pub(crate) camera: Camera,
+    pub camera: Camera,
 }
 
 /// Returns the command that the words of a command line ask for, if they ask for one.

@@ -1,10 +1,10 @@
-ghost use Rattle.std.specs.Prelude.{◌≡◌, ◌≢◌, ◌≤◌, Err, true, IfOk, IfErr, OnOk};
-ghost use Rattle.span_io.specs.Faults.{Rose};
+ghost use Rattle.std.specs.Prelude.{◌≡◌, ◌≤◌, IfOk, IfErr, OnOk};
 ghost use Rattle.geom_core.specs.Limits.{IsPicture};
-ghost use Rattle.geode_tool.specs.Commands.{AnswersOrFails, may_refuse};
-ghost use Rattle.geode_tool.specs.Draw.{draw_answer, IsPictureText, DrawRefused};
-ghost use Rattle.geode_tool.specs.Outputs.{WritesAll, WritesPrefix};
 ghost use Rattle.span_io.specs.Reads.{ReadToEnd};
+ghost use Rattle.geode_tool.specs.Draw.{IsPictureText};
+ghost use Rattle.geode_tool.specs.Headline.{Holds};
+ghost use Rattle.geode_tool.specs.Inputs.{inputs_of, streams};
+ghost use Rattle.geode_tool.specs.Internal.Unwritten.{StopsUnwritten};
 ghost use Rattle.geode_tool.specs.declared.commands.Command.TheVariants as Command;
 
 use crate::commands::DrawRequest;
@@ -26,26 +26,11 @@ pub(crate) fn draw<S: Source, K: Sink>(
 ) -> Result<Done, Fault>
     requires { IsPicture request.now.size }
 
-    ensures answered { AnswersOrFails draw_answer (S.left input.old) result }
-    ensures picture { OnOk result (WritesAll (IsPictureText request.now (S.left input.old))
-        (K.written out.old) (K.written out.new)) }
-    ensures success_kind { IfOk result (λ done. done ≡ Done.Drawn) }
-    ensures input_read { OnOk result (ReadToEnd (S.left input.old) (S.left input.new)) }
-    ensures flushed { OnOk result (K.flushed out.new ≡ true) }
-
-    ensures refusals { IfErr result
-        (λ fault. may_refuse (Command.Draw request.now) fault ≡ true) }
-    ensures read_fault { result ≡ Err Fault.ReadFault
-        → Rose (S.faults input.old) (S.faults input.new) }
-    ensures write_fault { result ≡ Err Fault.WriteFault
-        → Rose (K.faults out.old) (K.faults out.new) }
-    ensures prefix { result ≡ Err Fault.WriteFault
-        → WritesPrefix (IsPictureText request.now (S.left input.old))
-        (K.written out.old) (K.written out.new) }
-    ensures output_unchanged { IfErr result (λ fault. fault ≢ Fault.WriteFault → out.new ≡ out.old) }
-
-    ensures input_fault_count { S.faults input.old ≤ S.faults input.new }
-    ensures output_fault_count { K.faults out.old ≤ K.faults out.new }
+    ensures promise { Holds (Command.Draw request.now)
+        (streams (S.left input.old) (S.faults input.old)
+        (K.written out.old) (K.flushed out.old) (K.faults out.old) out.old)
+        (streams (S.left input.new) (S.faults input.new)
+        (K.written out.new) (K.flushed out.new) (K.faults out.new) out.new) result }
 {
     let text = drawn_text(alloc, request, input)?;
     write_whole(out, &text)?;
@@ -62,9 +47,11 @@ fn drawn_text<S: Source>(
 
     ensures picture { IfOk result (λ text. IsPictureText request.now (S.left input.old) text.items) }
     ensures input_read { OnOk result (ReadToEnd (S.left input.old) (S.left input.new)) }
+    ensures no_fault { OnOk result (S.faults input.new ≡ S.faults input.old) }
 
-    ensures refused { IfErr result
-        (DrawRefused (S.left input.old) (S.faults input.old) (S.faults input.new)) }
+    ensures refused { IfErr result (StopsUnwritten (Command.Draw request.now)
+        (inputs_of (S.left input.old)) (inputs_of (S.left input.new))
+        (S.faults input.old) (S.faults input.new)) }
     ensures fault_count { S.faults input.old ≤ S.faults input.new }
 {
     let tris = read_obj(alloc, input, STEPS_PER_UNIT)?;

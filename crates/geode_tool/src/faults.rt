@@ -8,8 +8,8 @@ use residency::ReplayFault;
 use span_io::TextFault;
 use thiserror::Error;
 
-/// What a command did, if it succeeded.
-#[derive(Clone, Copy, Debug, PartialEq, Eq)]
+/// What a command did, if it succeeded. Neither copied nor compared: variants to come hold lists.
+#[derive(Debug, Drop)]
 pub enum Done {
     /// `draw` wrote the picture.
     Drawn,
@@ -28,13 +28,13 @@ pub enum UsageKind {
     Line,
 }
 
-/// Why a command was not done.
+/// Why a command was not done. Neither copied nor compared: variants to come hold lists.
 ///
-/// `Usage` comes before anything is read. `ReadFault`, `WriteFault` and `Memory` are failures of the outside
-/// and may come at any point. The others are facts of the text: in `draw` the first faulty line comes before
-/// `TooLong` and `Empty`, and `TooMany` may come before a fault of a later line; in `audit` `TooLong` comes
-/// first, then `BadJournal`, then `Illegal`.
-#[derive(Clone, Copy, Debug, PartialEq, Eq, Error)]
+/// `Usage` comes before anything is read. `ReadFault`, `WriteFault` and `Memory` are failures of the outside.
+/// The others are facts of the text, by its lines and not in one order: in `draw` the first line with a fault
+/// decides, so that `TooMany` of line 5 comes before `BadObj` of line 6, and `TooLong` and `Empty` come if no line
+/// has a fault; in `audit` `TooLong` comes first, then `BadJournal`, then `Illegal`.
+#[derive(Debug, Drop, Error)]
 pub enum Fault {
     /// The words are no command; nothing was read or written.
     #[error("usage: {0}")]
@@ -76,7 +76,7 @@ pub enum Fault {
     /// The output failed; a prefix of the result was written, possibly empty or complete.
     #[error("output could not be written")]
     WriteFault,
-    /// Memory ran out; nothing was written.
+    /// Memory ran out; nothing was written by `draw` or `audit`, which take all their memory first.
     #[error("out of memory")]
     Memory,
 }

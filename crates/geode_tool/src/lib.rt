@@ -12,10 +12,14 @@ mod commands;
 mod draw_command;
 mod draw_mesh;
 mod faults;
+mod program;
 #[cfg(test)]
 mod tests;
 mod tool;
 mod write_output;
 
+pub use commands::{Command, DrawRequest};
 pub use faults::{Done, Fault, UsageKind};
+pub use obj_source::ObjWhy;
+pub use program::{call, exit_status};
 pub use tool::geode;

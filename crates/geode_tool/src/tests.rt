@@ -144,11 +144,27 @@ pub(crate) const SOUND: Calls = Calls {
     failing_write: 0,
 };
 
-/// The answer of a run, and what the run wrote.
+/// What a run came to, and what the run wrote.
 #[derive(Drop)]
 pub(crate) struct Outcome {
-    pub(crate) answer: Result<Done, Fault>,
+    /// `drawn`, `audited N`, or the line of the fault.
+    pub(crate) said: String,
     pub(crate) written: Vec<u8>,
+}
+
+impl Outcome {
+    fn says(&self, what: &str) -> bool {
+        self.said.as_str() == what
+    }
+}
+
+/// Returns an answer as a text.
+fn said(alloc: Global, answer: &Result<Done, Fault>) -> Result<String, Memory> {
+    Ok(match answer {
+        Ok(Done::Drawn) => format!(in alloc; "drawn")?,
+        Ok(Done::Audited { entries }) => format!(in alloc; "audited {entries}")?,
+        Err(fault) => format!(in alloc; "{fault}")?,
+    })
 }
 
 pub(crate) fn run(
@@ -166,7 +182,7 @@ pub(crate) fn run(
     let mut out = MemorySink::of(alloc, 65_536, calls.most, failing_writes)?;
     let answer = geode(alloc, words, &mut input, &mut out);
     Ok(Outcome {
-        answer,
+        said: said(alloc, &answer)?,
         written: out.into_bytes(),
     })
 }
@@ -213,7 +229,7 @@ fn assert_drawn(
 ) -> Result<(), Fail> {
     for calls in [SOUND, SLOW] {
         let outcome = run(alloc, &["draw", "4", "4", camera], text, calls)?;
-        assert_eq!(rt; outcome.answer, Ok(Done::Drawn), "{name}");
+        assert!(rt; outcome.says("drawn"), "{name}");
         assert_eq!(rt; outcome.written, text_of(alloc, pixels)?, "{name}");
     }
     Ok(())
@@ -244,7 +260,7 @@ fn assert_drawn_narrow(
 ) -> Result<(), Fail> {
     for calls in [SOUND, SLOW] {
         let outcome = run(alloc, &["draw", "3", "5", camera], text, calls)?;
-        assert_eq!(rt; outcome.answer, Ok(Done::Drawn), "{name}");
+        assert!(rt; outcome.says("drawn"), "{name}");
         assert_eq!(rt; outcome.written, text_of_rows(alloc, pixels, 3)?, "{name}");
     }
     Ok(())
@@ -305,22 +321,17 @@ fn draws_an_export_with_returns(rt: HostRuntime) -> Result<(), Fail> {
     assert_drawn(&rt, rt.alloc(), "returns", &text, ABOVE, &TWO)
 }
 
-/// A fault of a line.
-fn line(line: u32, why: ObjWhy) -> Fault {
-    Fault::BadObj { line, why }
-}
-
 /// Draws a text in whole pieces and byte by byte, and compares the fault.
 fn assert_refused(
     rt: &impl Abort,
     alloc: Global,
     name: &str,
     text: &str,
-    fault: Fault,
+    fault: &str,
 ) -> Result<(), Fail> {
     for calls in [SOUND, SLOW] {
         let outcome = run(alloc, DRAW, text, calls)?;
-        assert_eq!(rt; outcome.answer, Err(fault), "{name}");
+        assert_eq!(rt; outcome.said.as_str(), fault, "{name}");
         assert!(rt; outcome.written.is_empty(), "{name}");
     }
     Ok(())
@@ -329,12 +340,12 @@ fn assert_refused(
 #[test]
 fn the_first_fault_of_a_mesh_is_reported(rt: HostRuntime) -> Result<(), Fail> {
     let cases = [
-        ("no bytes", "", Fault::Empty),
-        ("vertices alone", CORNERS, Fault::Empty),
-        ("equal once rounded", EQUAL_POINTS, Fault::Empty),
-        ("no third number", "v 1 2", line(1, ObjWhy::BadNumber(3))),
-        ("a word", "\nv 1 nan 2\n", line(2, ObjWhy::BadNumber(2))),
-        ("before Empty", "\t\nf 1 1\n", line(2, ObjWhy::ShortFace)),
+        ("no bytes", "", "no triangle"),
+        ("vertices alone", CORNERS, "no triangle"),
+        ("equal once rounded", EQUAL_POINTS, "no triangle"),
+        ("no third number", "v 1 2", "line 1: bad number 3"),
+        ("a word", "\nv 1 nan 2\n", "line 2: bad number 2"),
+        ("before Empty", "\t\nf 1 1\n", "line 2: short face"),
     ];
     for (name, text, fault) in cases {
         assert_refused(&rt, rt.alloc(), name, text, fault)?;
@@ -345,16 +356,16 @@ fn the_first_fault_of_a_mesh_is_reported(rt: HostRuntime) -> Result<(), Fail> {
 #[test]
 fn the_first_fault_of_a_face_is_reported(rt: HostRuntime) -> Result<(), Fail> {
     let cases = [
-        ("a repeated corner", "f 1 2 2", Fault::Empty),
-        ("vertex 0", "f 1 2 0", line(4, ObjWhy::NoSuchVertex(3))),
-        ("vertex 4 of 3", "f 1 2 4", line(4, ObjWhy::NoSuchVertex(3))),
-        ("two corners", "f 1 2", line(4, ObjWhy::ShortFace)),
-        ("no number", "f 1 2 x", line(4, ObjWhy::BadCorner(3))),
-        ("a plus", "f 1 +2 x", line(4, ObjWhy::BadCorner(2))),
+        ("a repeated corner", "f 1 2 2", "no triangle"),
+        ("vertex 0", "f 1 2 0", "line 4: no such vertex 3"),
+        ("vertex 4 of 3", "f 1 2 4", "line 4: no such vertex 3"),
+        ("two corners", "f 1 2", "line 4: short face"),
+        ("no number", "f 1 2 x", "line 4: bad corner 3"),
+        ("a plus", "f 1 +2 x", "line 4: bad corner 2"),
         (
             "a vertex out of range, after a face",
             "f 1 2 3\nv 0 0 1025 # far\nf 1 2 x",
-            line(5, ObjWhy::OutOfRange(3)),
+            "line 5: out of range 3",
         ),
     ];
     for (name, face, fault) in cases {
@@ -370,7 +381,7 @@ fn the_most_triangles_are_drawn(rt: HostRuntime) -> Result<(), Fail> {
     let mut text = with_pairs(alloc, 524_288)?;
     text.push_str(" 2")?;
     let outcome = run(alloc, DRAW, &text, SOUND)?;
-    assert_eq!(rt; outcome.answer, Ok(Done::Drawn));
+    assert_eq!(rt; outcome.said.as_str(), "drawn");
     assert_eq!(rt; outcome.written, text_of(alloc, &LAST)?);
     Ok(())
 }
@@ -380,12 +391,12 @@ fn one_triangle_more_is_refused(rt: HostRuntime) -> Result<(), Fail> {
     let alloc = rt.alloc();
     let mut text = with_pairs(alloc, 524_289)?;
     let outcome = run(alloc, DRAW, &text, SOUND)?;
-    assert_eq!(rt; outcome.answer, Err(Fault::TooMany));
+    assert_eq!(rt; outcome.said.as_str(), "more than 1048576 triangles");
     assert!(rt; outcome.written.is_empty());
     text.push_str(" 4")?;
     let outcome = run(alloc, DRAW, &text, SOUND)?;
-    let fault = line(4, ObjWhy::NoSuchVertex(1_048_580));
-    assert_eq!(rt; outcome.answer, Err(fault));
+    let fault = "line 4: no such vertex 1048580";
+    assert_eq!(rt; outcome.said.as_str(), fault);
     Ok(())
 }
 
@@ -398,11 +409,15 @@ fn wrong_words_are_refused(rt: HostRuntime) -> Result<(), Fail> {
     ];
     for (name, words, text) in cases {
         let outcome = run(rt.alloc(), words, text, SOUND)?;
-        let fault = Fault::Usage(UsageKind::Line);
-        assert_eq!(rt; outcome.answer, Err(fault), "{name}");
+        assert_eq!(rt; outcome.said.as_str(), "usage: line", "{name}");
         assert!(rt; outcome.written.is_empty(), "{name}");
     }
     Ok(())
+}
+
+/// A fault of a line.
+fn line(line: u32, why: ObjWhy) -> Fault {
+    Fault::BadObj { line, why }
 }
 
 /// Compares the line that is printed for a fault.
@@ -462,7 +477,7 @@ fn a_third_write_of_ten_bytes_fails(rt: HostRuntime) -> Result<(), Fail> {
         ..SOUND
     };
     let outcome = run(alloc, DRAW, TRIANGLE, calls)?;
-    assert_eq!(rt; outcome.answer, Err(Fault::WriteFault));
+    assert_eq!(rt; outcome.said.as_str(), "output could not be written");
     assert!(rt; outcome.written.len() <= 20);
     assert!(rt; text_of(alloc, &ONE)?.starts_with(&outcome.written));
     Ok(())
@@ -479,8 +494,8 @@ fn each_read_fails(rt: HostRuntime) -> Result<(), Fail> {
         };
         let outcome = run(alloc, DRAW, TRIANGLE, calls)?;
         assert_eq!(rt;
-            outcome.answer,
-            Err(Fault::ReadFault),
+            outcome.said.as_str(),
+            "input could not be read",
             "read {failing_read}"
         );
         assert!(rt; outcome.written.is_empty(), "read {failing_read}");
@@ -491,14 +506,14 @@ fn each_read_fails(rt: HostRuntime) -> Result<(), Fail> {
 // Line 1 ends with the sixth byte, and no read is made once it was judged.
 #[test]
 fn no_read_follows_a_fault(rt: HostRuntime) -> Result<(), Fail> {
-    let cases = [(6, Fault::ReadFault), (7, line(1, ObjWhy::BadNumber(3)))];
+    let cases = [(6, "input could not be read"), (7, "line 1: bad number 3")];
     for (failing_read, fault) in cases {
         let calls = Calls {
             failing_read,
             ..SLOW
         };
         let outcome = run(rt.alloc(), DRAW, "v 1 2\nv 0 0 0\n", calls)?;
-        assert_eq!(rt; outcome.answer, Err(fault), "read {failing_read}");
+        assert_eq!(rt; outcome.said.as_str(), fault, "read {failing_read}");
     }
     Ok(())
 }
@@ -516,8 +531,8 @@ fn each_write_fails(rt: HostRuntime) -> Result<(), Fail> {
         };
         let outcome = run(alloc, DRAW, TRIANGLE, calls)?;
         assert_eq!(rt;
-            outcome.answer,
-            Err(Fault::WriteFault),
+            outcome.said.as_str(),
+            "output could not be written",
             "write {failing_write}"
         );
         assert_eq!(rt; outcome.written.len() as u64, failing_write - 1);
@@ -531,15 +546,11 @@ fn each_write_fails(rt: HostRuntime) -> Result<(), Fail> {
 fn draws_or_finds_no_memory(rt: HostRuntime) -> Result<(), Fail> {
     let alloc = rt.alloc();
     if let Ok(outcome) = run(alloc, DRAW, EXPORT, SOUND) {
-        match outcome.answer {
-            Ok(done) => {
-                assert_eq!(rt; done, Done::Drawn);
-                assert_eq!(rt; outcome.written.len() as u64, TEXT_LEN);
-            }
-            Err(fault) => {
-                assert_eq!(rt; fault, Fault::Memory);
-                assert!(rt; outcome.written.is_empty());
-            }
+        if outcome.said.as_str() == "out of memory" {
+            assert!(rt; outcome.written.is_empty());
+        } else {
+            assert_eq!(rt; outcome.said.as_str(), "drawn");
+            assert_eq!(rt; outcome.written.len() as u64, TEXT_LEN);
         }
     }
     Ok(())

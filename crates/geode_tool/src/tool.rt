@@ -1,13 +1,7 @@
-ghost use Rattle.std.specs.Prelude.{◌≡◌, ◌≢◌, ◌≤◌, ◌↔◌, ◌⊎◌, ℕ, List, Some, None, Ok, Err, true, OnOk, IfOk, IfErr, IfSome};
-ghost use Rattle.span_io.specs.Faults.{Rose};
-ghost use Rattle.span_io.specs.Puts.{Appended};
-ghost use Rattle.geode_tool.specs.Audit.{verdict_text, IsAudited};
-ghost use Rattle.geode_tool.specs.Commands.{asked, answer_of, is_own, may_refuse, IsOutput, AnswersOrFails};
-ghost use Rattle.geode_tool.specs.Draw.{IsPictureText};
-ghost use Rattle.geode_tool.specs.Outputs.{WritesAll, WritesPrefix};
-ghost use Rattle.span_io.specs.Reads.{ReadToEnd};
-ghost use Rattle.geode_tool.specs.declared.commands.Command.{Command};
-ghost use Rattle.geode_tool.specs.declared.commands.DrawRequest.{DrawRequest};
+ghost use Rattle.std.specs.Prelude.{◌≡◌, ◌↔◌, None, Err, IfSome};
+ghost use Rattle.geode_tool.specs.Commands.{asked};
+ghost use Rattle.geode_tool.specs.Headline.{Holds};
+ghost use Rattle.geode_tool.specs.Inputs.{streams};
 
 use crate::audit_command::audit;
 use crate::commands::{Command, command_of};
@@ -21,6 +15,14 @@ use std::alloc::Global;
 /// `words` are the command line without the program's name. `draw WIDTH HEIGHT CAMERA` reads an OBJ text
 /// and writes the picture of its triangles as rows of hexadecimal words. `audit` reads the text of a page
 /// pool's journal and writes `legal N` if each of its N entries was allowed after the entries before it.
+///
+/// The promise, of which the record `Holds` in `specs/Headline.antt` has a field for each phrase:
+///
+/// **For input whose bytes are known, a command answers their first refusal or succeeds, unless a read, a
+/// write or memory fails; a success has written exactly its text, flushed it and read all input; a refusal
+/// is one that the command may return, has its cause, comes before any further read, and leaves a prefix of
+/// such a text after a failed write or want of memory, and otherwise the output as it was; no count of
+/// failures falls, and a success changes none.**
 pub fn geode<S: Source, K: Sink>(
     alloc: Global,
     words: &[&str],
@@ -32,48 +34,12 @@ pub fn geode<S: Source, K: Sink>(
     ensures unchanged { asked words.now ≡ None
         → (input.new ≡ input.old) × (out.new ≡ out.old) }
 
-    // An input with known bytes has one answer, unless reading, writing or memory fails.
-    ensures answered { IfSome (asked words.now) (λ command.
-        AnswersOrFails (answer_of command) (S.left input.old) result) }
-
-    // Success: it is that of the command, all input was read, and the output is flushed.
-    ensures success_kind { IfOk result (λ done. IfSome (asked words.now)
-        (λ command. is_own command done ≡ true)) }
-    ensures input_read { OnOk result (ReadToEnd (S.left input.old) (S.left input.new)) }
-    ensures flushed { OnOk result (K.flushed out.new ≡ true) }
-
-    // `draw`: the text of the picture is appended to the output.
-    ensures picture { (request : DrawRequest) → asked words.now ≡ Some (Command.Draw request)
-        → OnOk result (WritesAll (IsPictureText request (S.left input.old))
-        (K.written out.old) (K.written out.new)) }
-
-    // `audit`: the number of entries is that of a legal journal, and the verdict is appended.
-    ensures audited { (entries : ℕ) → result ≡ Ok (Done.Audited entries)
-        → IsAudited (S.left input.old) entries }
-    ensures verdict { (entries : ℕ) → result ≡ Ok (Done.Audited entries)
-        → Appended (K.written out.old) (K.written out.new) (verdict_text entries) }
-
-    // Which faults a command may return, what caused them, and what they leave of the output.
-    ensures refusals { IfErr result (λ fault. IfSome (asked words.now)
-        (λ command. may_refuse command fault ≡ true)) }
-    ensures read_fault { result ≡ Err Fault.ReadFault
-        → Rose (S.faults input.old) (S.faults input.new) }
-    ensures write_fault { result ≡ Err Fault.WriteFault
-        → Rose (K.faults out.old) (K.faults out.new) }
-    ensures prefix { result ≡ Err Fault.WriteFault → IfSome (asked words.now)
-        (λ command. WritesPrefix (IsOutput command (S.left input.old))
-        (K.written out.old) (K.written out.new)) }
-    ensures output_unchanged { IfErr result (λ fault. fault ≢ Fault.WriteFault → out.new ≡ out.old) }
-
-    // If neither input nor output failed, the answer is that of the known bytes, or `Memory`.
-    ensures complete { (command : Command) (text : List ℕ) → asked words.now ≡ Some command
-        → S.left input.old ≡ Some text
-        → ¬ (Rose (S.faults input.old) (S.faults input.new))
-        → ¬ (Rose (K.faults out.old) (K.faults out.new))
-        → (result ≡ answer_of command text) ⊎ (result ≡ Err Fault.Memory) }
-
-    ensures input_fault_count { S.faults input.old ≤ S.faults input.new }
-    ensures output_fault_count { K.faults out.old ≤ K.faults out.new }
+    // Otherwise the promise holds of the command.
+    ensures promise { IfSome (asked words.now) (λ command. Holds command
+        (streams (S.left input.old) (S.faults input.old)
+        (K.written out.old) (K.flushed out.old) (K.faults out.old) out.old)
+        (streams (S.left input.new) (S.faults input.new)
+        (K.written out.new) (K.flushed out.new) (K.faults out.new) out.new) result) }
 {
     match command_of(words) {
         None => Err(Fault::Usage(UsageKind::Line)),

@@ -9,6 +9,7 @@ use span_io::{Sink, put_all};
 pub(crate) fn write_whole<K: Sink>(out: &mut K, bytes: &[u8]) -> Result<(), Fault>
     ensures output { OnOk result (Appended (K.written out.old) (K.written out.new) bytes.now) }
     ensures flushed { OnOk result (K.flushed out.new ≡ true) }
+    ensures no_fault { OnOk result (K.faults out.new ≡ K.faults out.old) }
 
     ensures write_fault { IfErr result (λ fault. fault ≡ Fault.WriteFault) }
     ensures cause { OnErr result (Rose (K.faults out.old) (K.faults out.new)) }

@@ -1,5 +1,5 @@
 -- What the reading of a source came to.
-use Rattle.std.specs.Prelude.{◌≡◌, ◌≤◌, ℕ, ◌+◌, List, ◌++◌, length, drop, Option, Some, None, option_map, Result, Ok, Err}
+use Rattle.std.specs.Prelude.{◌≡◌, ◌≤◌, ◌⊎◌, ℕ, ◌+◌, List, ◌++◌, length, take, drop, Option, Some, None, option_map, Result, Ok, Err}
 use Rattle.geom_core.specs.declared.limits.TheConstants.{MAX_OBJ_BYTES, READ_BYTES}
 use Rattle.geom_core.specs.declared.triangles.Tri.{Tri}
 use Rattle.span_io.specs.Faults.{Rose}
@@ -17,16 +17,14 @@ Answers scale (Some text) answer = mesh scale text ≡ answer
 abbrev pub Listed : ℕ → Option (List ℕ) → List Tri → Type 0
 Listed scale left tris = Answers scale left (Ok tris)
 
--- What each refusal says of the bytes left and of the count of faults. A text is read to its end before it is
--- empty, and to the first byte too many before it is too long.
-abbrev pub Refused : ℕ → Option (List ℕ) → Option (List ℕ) → ℕ → ℕ → ObjFault → Type 0
-Refused scale left new_left faults new_faults (Line line why) = Answers scale left (Err (Line line why))
-Refused scale left new_left faults new_faults TooMany = Answers scale left (Err TooMany)
-Refused scale left new_left faults new_faults TooLong =
-    Answers scale left (Err TooLong) × (new_left ≡ option_map (drop (MAX_OBJ_BYTES + 1)) left)
-Refused scale left new_left faults new_faults Empty = Answers scale left (Err Empty) × ReadToEnd left new_left
-Refused scale left new_left faults new_faults Read = Rose faults new_faults
-Refused scale left new_left faults new_faults Memory = Unit {0}
+-- what each refusal says of the bytes that were left, and a failed read of the count of faults
+abbrev pub Refused : ℕ → Option (List ℕ) → ℕ → ℕ → ObjFault → Type 0
+Refused scale left faults new_faults (Line line why) = Answers scale left (Err (Line line why))
+Refused scale left faults new_faults TooMany = Answers scale left (Err TooMany)
+Refused scale left faults new_faults TooLong = Answers scale left (Err TooLong)
+Refused scale left faults new_faults Empty = Answers scale left (Err Empty)
+Refused scale left faults new_faults Read = Rose faults new_faults
+Refused scale left faults new_faults Memory = Unit {0}
 
 -- no line that ended in the text has a fault
 abbrev pub HasNoFault : ℕ → List ℕ → Type 0
@@ -37,20 +35,26 @@ HasNoFault scale text =
 abbrev pub ReadsNoFault : ℕ → Option (List ℕ) → Option (List ℕ) → Type 0
 ReadsNoFault scale left new_left = (text : List ℕ) × Consumed left new_left text × HasNoFault scale text
 
--- What was read ends with a piece, of at most one read, before which no line that ended has a fault.
-pub record ReadsOnePieceMore (scale : ℕ) (left new_left : Option (List ℕ)) : Type 0 where
+-- the first fault among the lines that ended in the text, of which only the first MAX_OBJ_BYTES are looked at
+abbrev pub HasFault : ℕ → List ℕ → ObjFault → Type 0
+HasFault scale text fault = read_lines scale nothing 1 (ended_lines (take MAX_OBJ_BYTES text)) ≡ Err fault
+
+-- What was read ends with the piece, of at most one read, in which the first faulty line ends. A faulty last line
+-- without an LF ends where the source does.
+pub record ReadsToFault (scale : ℕ) (left new_left : Option (List ℕ)) (fault : ObjFault) : Type 0 where
   pub before : List ℕ
   pub piece : List ℕ
   pub consumed : Consumed left new_left (before ++ piece)
   pub one_read : length piece ≤ READ_BYTES
-  pub no_fault : HasNoFault scale before
+  pub no_fault_before : HasNoFault scale before
+  pub fault_after : HasFault scale (before ++ piece) fault ⊎ ReadToEnd left new_left
 
--- How far the source was read before a refusal: after a line with a fault nothing is read, and a read fails only
--- before one.
+-- How far the source was read before a refusal: after a line with a fault nothing is read, a read fails only before
+-- one, a text is read to the first byte too many before it is too long, and to its end before it is empty.
 abbrev pub ReadsUpTo : ℕ → Option (List ℕ) → Option (List ℕ) → ObjFault → Type 0
-ReadsUpTo scale left new_left (Line line why) = ReadsOnePieceMore scale left new_left
-ReadsUpTo scale left new_left TooMany = ReadsOnePieceMore scale left new_left
-ReadsUpTo scale left new_left TooLong = Unit {0}
-ReadsUpTo scale left new_left Empty = Unit {0}
+ReadsUpTo scale left new_left (Line line why) = ReadsToFault scale left new_left (Line line why)
+ReadsUpTo scale left new_left TooMany = ReadsToFault scale left new_left TooMany
+ReadsUpTo scale left new_left TooLong = new_left ≡ option_map (drop (MAX_OBJ_BYTES + 1)) left
+ReadsUpTo scale left new_left Empty = ReadToEnd left new_left
 ReadsUpTo scale left new_left Read = ReadsNoFault scale left new_left
 ReadsUpTo scale left new_left Memory = Unit {0}

@@ -19,8 +19,9 @@ use std::alloc::Global;
 /// 1 on in the order of the vertices above, from -1 on backwards; what follows a `/` is passed over. A
 /// triangle with two equal corners is dropped. Every other line is passed over, whatever its bytes.
 ///
-/// The text is read to its end, or to its first faulty line, or to the first byte above 2^28. `Read` comes
-/// only where the source's count of faults rose. Memory is taken for the vertices, the triangles and the
+/// The text is read to its end, or to its first faulty line, or to the first byte above 2^28: no read is made
+/// after the one that gave the end of that line. `Read` comes only if the source's count of faults rose, and no
+/// line that ended before the failed read has a fault. Memory is taken for the vertices, the triangles and the
 /// longest word of a `v` or `f` line.
 pub fn read_obj<S: Source>(alloc: Global, src: &mut S, scale: u32) -> Result<Vec<Tri>, ObjFault>
     requires scale_range { IsScale scale }
@@ -30,7 +31,7 @@ pub fn read_obj<S: Source>(alloc: Global, src: &mut S, scale: u32) -> Result<Vec
     ensures ended { OnOk result (ReadToEnd (S.left src.old) (S.left src.new)) }
     ensures no_fault { OnOk result (S.faults src.new ≡ S.faults src.old) }
 
-    ensures refused { IfErr result (Refused scale (S.left src.old) (S.left src.new)
+    ensures refused { IfErr result (Refused scale (S.left src.old)
         (S.faults src.old) (S.faults src.new)) }
     ensures read_up_to { IfErr result (ReadsUpTo scale (S.left src.old) (S.left src.new)) }
     ensures fault_count { S.faults src.old ≤ S.faults src.new }

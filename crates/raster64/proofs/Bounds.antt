@@ -1,5 +1,6 @@
 -- Sums and differences of bounded integers, and the words that hold them.
-use Rattle.std.proofs.Common.{◌≡◌, ℕ, ◌+◌, ◌*◌, ◌≤◌, ◌<◌, ◌^◌, ℤ, ◌+ℤ◌, ◌-ℤ◌, to_z, of_z, w64, unsigned_abs, lit<, arith, rules}
+use Rattle.std.proofs.Common.{◌≡◌, ℕ, ◌+◌, ◌*◌, ◌≤◌, ◌<◌, ◌^◌, ℤ, ◌+ℤ◌, ◌-ℤ◌, to_z, of_z, w64, unsigned_abs, lit<}
+use Rattle.std.proofs.Common.{arith, rules}
 use Rattle.std.proofs.Math.Nat.{mul-le-mul}
 use Rattle.std.proofs.lemmas.Nat.{mul-add-lt}
 use Rattle.std.proofs.lemmas.Int.{ints, to_z-of_z, fits_signed_from_abs}
@@ -41,7 +42,8 @@ pub depth_limit : (z : ℕ) → IsDepth z → z ≤ MAX_DEPTH
 depth_limit z h = search rules
 
 -- the sides of a picture
-pub picture_sides : (size : Size) → IsPicture size → (0 < size.width) × (size.width ≤ MAX_SIDE) × (0 < size.height) × (size.height ≤ MAX_SIDE)
+pub picture_sides : (size : Size) → IsPicture size →
+    (0 < size.width) × (size.width ≤ MAX_SIDE) × (0 < size.height) × (size.height ≤ MAX_SIDE)
 picture_sides size h = search rules
 
 -- a difference and a sum as the code computes them

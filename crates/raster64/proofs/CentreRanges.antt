@@ -27,7 +27,10 @@ range_between p q first end count first_limit end_limit before from below after 
       order = order;
       limit = end_limit;
       before = λ k h. rw (at_most_false (int_min p q) (centre k) (before k h)) refl;
-      inside = λ k h i. rw (at_most_true (int_min p q) (centre k) (from k h (omega arith)), less_true (centre k) (int_max p q) (below k i)) refl;
+      inside = λ k h i. rw (
+        at_most_true (int_min p q) (centre k) (from k h (omega arith)),
+        less_true (centre k) (int_max p q) (below k i),
+      ) refl;
       after = λ k h i. rw (less_false (centre k) (int_max p q) (after k h i)) (none (int_le (int_min p q) (centre k)));
     }
   where
@@ -36,7 +39,8 @@ range_between p q first end count first_limit end_limit before from below after 
     none false = refl
 
 -- the same numbers below the count pass a test that answers the same there
-pub range_same : (p q : ℕ → Bool) (first end count : ℕ) → ((k : ℕ) → k < count → q k ≡ p k) → AreInRange p first end count →
+pub range_same : (p q : ℕ → Bool) (first end count : ℕ) → ((k : ℕ) → k < count → q k ≡ p k) →
+    AreInRange p first end count →
     AreInRange q first end count
 range_same p q first end count same r =
     let order = r.order in
@@ -64,32 +68,44 @@ range_none p count none = record {
 pub span_first : (a b c : Spot) (x y : ℤ) → a.y ≤ℤ y → y <ℤ b.y → y <ℤ c.y →
     is_in_span a b c x y ≡ is_between (crossing_column a b y) (crossing_column a c y) x
 unfolding is_in_span is_in_span_by
-span_first a b c x y at_a at_b at_c = rw (at_most_true a.y y at_a, at_most_false b.y y at_b, at_most_false c.y y at_c) refl
+span_first a b c x y at_a at_b at_c = rw (at_most_true a.y y at_a, at_most_false b.y y at_b, at_most_false c.y y at_c)
+    refl
 
 pub span_second : (a b c : Spot) (x y : ℤ) → y <ℤ a.y → b.y ≤ℤ y → y <ℤ c.y →
     is_in_span a b c x y ≡ is_between (crossing_column b c y) (crossing_column b a y) x
 unfolding is_in_span is_in_span_by
-span_second a b c x y at_a at_b at_c = rw (at_most_false a.y y at_a, at_most_true b.y y at_b, at_most_false c.y y at_c) refl
+span_second a b c x y at_a at_b at_c = rw (at_most_false a.y y at_a, at_most_true b.y y at_b, at_most_false c.y y at_c)
+    refl
 
 pub span_third : (a b c : Spot) (x y : ℤ) → y <ℤ a.y → y <ℤ b.y → c.y ≤ℤ y →
     is_in_span a b c x y ≡ is_between (crossing_column c a y) (crossing_column c b y) x
 unfolding is_in_span is_in_span_by
-span_third a b c x y at_a at_b at_c = rw (at_most_false a.y y at_a, at_most_false b.y y at_b, at_most_true c.y y at_c) refl
+span_third a b c x y at_a at_b at_c = rw (at_most_false a.y y at_a, at_most_false b.y y at_b, at_most_true c.y y at_c)
+    refl
 
 pub span_but_first : (a b c : Spot) (x y : ℤ) → y <ℤ a.y → b.y ≤ℤ y → c.y ≤ℤ y →
     is_in_span a b c x y ≡ is_between (crossing_column b a y) (crossing_column c a y) x
 unfolding is_in_span is_in_span_by
-span_but_first a b c x y at_a at_b at_c = rw (at_most_false a.y y at_a, at_most_true b.y y at_b, at_most_true c.y y at_c) refl
+span_but_first a b c x y at_a at_b at_c = rw (
+  at_most_false a.y y at_a,
+  at_most_true b.y y at_b,
+  at_most_true c.y y at_c,
+) refl
 
 pub span_but_second : (a b c : Spot) (x y : ℤ) → a.y ≤ℤ y → y <ℤ b.y → c.y ≤ℤ y →
     is_in_span a b c x y ≡ is_between (crossing_column a b y) (crossing_column c b y) x
 unfolding is_in_span is_in_span_by
-span_but_second a b c x y at_a at_b at_c = rw (at_most_true a.y y at_a, at_most_false b.y y at_b, at_most_true c.y y at_c) refl
+span_but_second a b c x y at_a at_b at_c =
+    rw (at_most_true a.y y at_a, at_most_false b.y y at_b, at_most_true c.y y at_c) refl
 
 pub span_but_third : (a b c : Spot) (x y : ℤ) → a.y ≤ℤ y → b.y ≤ℤ y → y <ℤ c.y →
     is_in_span a b c x y ≡ is_between (crossing_column a c y) (crossing_column b c y) x
 unfolding is_in_span is_in_span_by
-span_but_third a b c x y at_a at_b at_c = rw (at_most_true a.y y at_a, at_most_true b.y y at_b, at_most_false c.y y at_c) refl
+span_but_third a b c x y at_a at_b at_c = rw (
+  at_most_true a.y y at_a,
+  at_most_true b.y y at_b,
+  at_most_false c.y y at_c,
+) refl
 
 pub span_all : (a b c : Spot) (x y : ℤ) → a.y ≤ℤ y → b.y ≤ℤ y → c.y ≤ℤ y → is_in_span a b c x y ≡ false
 unfolding is_in_span is_in_span_by
@@ -97,4 +113,5 @@ span_all a b c x y at_a at_b at_c = rw (at_most_true a.y y at_a, at_most_true b.
 
 pub span_none : (a b c : Spot) (x y : ℤ) → y <ℤ a.y → y <ℤ b.y → y <ℤ c.y → is_in_span a b c x y ≡ false
 unfolding is_in_span is_in_span_by
-span_none a b c x y at_a at_b at_c = rw (at_most_false a.y y at_a, at_most_false b.y y at_b, at_most_false c.y y at_c) refl
+span_none a b c x y at_a at_b at_c = rw (at_most_false a.y y at_a, at_most_false b.y y at_b, at_most_false c.y y at_c)
+    refl

@@ -1,6 +1,7 @@
 -- Along a row the weighted sum of depths grows by the same from column to column, and where the triangle covers a
 -- column its quotient is the depth.
-use Rattle.std.proofs.Common.{◌≡◌, ◌≢◌, ℕ, ◌+◌, ◌≤◌, ◌<◌, ℤ, pos, ◌+ℤ◌, ◌-ℤ◌, ◌*ℤ◌, ◌<ℤ◌, unsigned_abs, sym, ap, ◌∙◌, arith}
+use Rattle.std.proofs.Common.{◌≡◌, ◌≢◌, ℕ, ◌+◌, ◌≤◌, ◌<◌, ℤ, pos, ◌+ℤ◌, ◌-ℤ◌, ◌*ℤ◌, ◌<ℤ◌, unsigned_abs, sym, ap, ◌∙◌}
+use Rattle.std.proofs.Common.{arith}
 use Rattle.std.proofs.lemmas.Int.{ints, by_lt_z}
 use Rattle.geom_core.specs.declared.limits.TheConstants.{SUBPIXELS, MAX_DEPTH}
 use Rattle.geom_core.specs.declared.screens.Spot.{Spot}
@@ -37,13 +38,15 @@ weighted_moved : (a b c : Spot) (x y : ℤ) → weighted a b c (x +ℤ pos SUBPI
 unfolding weighted growth
 weighted_moved a b c x y =
     rw (edge_next b c x y (pos SUBPIXELS), edge_next c a x y (pos SUBPIXELS), edge_next a b x y (pos SUBPIXELS))
-    (shares_moved (edge_function b c x y) (edge_function c a x y) (edge_function a b x y) (b.y -ℤ c.y) (c.y -ℤ a.y) (a.y -ℤ b.y)
+    (shares_moved (edge_function b c x y) (edge_function c a x y) (edge_function a b x y) (b.y -ℤ c.y) (c.y -ℤ a.y)
+    (a.y -ℤ b.y)
     SUBPIXELS a.z b.z c.z)
 
 centre_next : (k : ℕ) → centre (k + 1) ≡ centre k +ℤ pos SUBPIXELS
 centre_next k = ap pos (omega arith)
 
-pub weighted_next : (a b c : Spot) (k : ℕ) (y : ℤ) → weighted a b c (centre (k + 1)) y ≡ weighted a b c (centre k) y +ℤ growth a b c
+pub weighted_next : (a b c : Spot) (k : ℕ) (y : ℤ) →
+    weighted a b c (centre (k + 1)) y ≡ weighted a b c (centre k) y +ℤ growth a b c
 weighted_next a b c k y = ap (λ x. weighted a b c x y) (centre_next k) ∙ weighted_moved a b c (centre k) y
 
 -- ---- the quotients
@@ -56,7 +59,8 @@ wholes_size n m d p r q s most positive h i size =
     by_lt_z (r +ℤ s) d
     (λ small. let e = quotient-is (n +ℤ m) d (p +ℤ q) (r +ℤ s) positive (sum_divided n m d p r q s h i small) in
     fits (p +ℤ q) (unsigned_abs (n +ℤ m)) most (rw e at quotient) size)
-    (λ large. let e = quotient-is (n +ℤ m) d (p +ℤ q +ℤ pos 1) (r +ℤ s -ℤ d) positive (sum_carried n m d p r q s h i large) in
+    (λ large. let e = quotient-is (n +ℤ m) d (p +ℤ q +ℤ pos 1) (r +ℤ s -ℤ d) positive
+    (sum_carried n m d p r q s h i large) in
     fits_carried (p +ℤ q) (unsigned_abs (n +ℤ m)) most (rw e at quotient) size)
   where
     nonzero : (d : ℤ) → pos 0 <ℤ d → d ≡ pos 0 → ⊥
@@ -69,11 +73,14 @@ wholes_size n m d p r q s most positive h i size =
     fits_carried z k most h i = omega (arith, ints)
 
 -- where the triangle winds round the point, the quotient is the depth
-pub whole-depth : (a b c : Spot) (x y d whole rest : ℤ) → winding a b c x y ≢ pos 0 → d ≡ edge_function a b c.x c.y → pos 0 <ℤ d →
+pub whole-depth : (a b c : Spot) (x y d whole rest : ℤ) → winding a b c x y ≢ pos 0 → d ≡ edge_function a b c.x c.y →
+    pos 0 <ℤ d →
     IsDivided (weighted a b c x y) d whole rest → whole ≡ pos (depth a b c x y)
 whole-depth a b c x y d whole rest round area positive h =
     let e : divisor a b c x y ≡ d = divisor-is a b c x y ∙ sym area in
-    sym (depth-quotient a b c x y round ∙ ap (floor_div (weighted a b c x y)) e ∙ quotient-is (weighted a b c x y) d whole rest positive h)
+    sym (depth-quotient a b c x y round ∙ ap (floor_div (weighted a b c x y)) e ∙
+    quotient-is (weighted a b c x y) d whole rest positive h)
 
-pub depth_at_most : (a b c : Spot) (x y : ℤ) → a.z ≤ MAX_DEPTH → b.z ≤ MAX_DEPTH → c.z ≤ MAX_DEPTH → depth a b c x y ≤ MAX_DEPTH
+pub depth_at_most : (a b c : Spot) (x y : ℤ) → a.z ≤ MAX_DEPTH → b.z ≤ MAX_DEPTH → c.z ≤ MAX_DEPTH →
+    depth a b c x y ≤ MAX_DEPTH
 depth_at_most a b c x y at_a at_b at_c = let k = depth-to a b c x y in omega arith

@@ -4,7 +4,8 @@ use Rattle.std.proofs.lemmas.Int.{ints}
 use Rattle.geom_core.specs.Floor.{floor_div}
 use Rattle.geom_core.proofs.Differences.{as_dif, difs, dif-same}
 use Rattle.geom_core.proofs.Signs.{product_not_negative}
-use Rattle.geom_core.proofs.FloorLaws.{floor_div-from, floor_div-to, floor_div-is, floor_div-at_least, floor_div-at_most}
+use Rattle.geom_core.proofs.FloorLaws.{floor_div-from, floor_div-to, floor_div-is, floor_div-at_least}
+use Rattle.geom_core.proofs.FloorLaws.{floor_div-at_most}
 use Rattle.raster64.specs.Internal.Numerators.{IsDivided}
 
 next_product : (q d : ℤ) → (q +ℤ pos 1) *ℤ d ≡ q *ℤ d +ℤ d
@@ -28,7 +29,8 @@ divided n d q r positive e f =
 -- the quotient is the number divided and rounded down
 pub quotient-is : (n d q r : ℤ) → pos 0 <ℤ d → IsDivided n d q r → floor_div n d ≡ q
 quotient-is n d q r positive h =
-    floor_div-is n d q positive (rw h.exact (from (q *ℤ d) r h.from)) (rw (next_product q d, h.exact) (to (q *ℤ d) r d h.below))
+    floor_div-is n d q positive (rw h.exact (from (q *ℤ d) r h.from))
+    (rw (next_product q d, h.exact) (to (q *ℤ d) r d h.below))
   where
     from : (k r : ℤ) → pos 0 ≤ℤ r → k ≤ℤ (k +ℤ r)
     from k r i = omega (arith, ints)

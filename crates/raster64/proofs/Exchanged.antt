@@ -1,5 +1,6 @@
 -- Two corners exchanged: the triangle covers the same pixels with the same words, and its divisor changes its sign.
-use Rattle.std.proofs.Common.{◌≡◌, ◌≢◌, ℕ, Bool, true, false, not, List, [], ◌∷◌, map, filter, min, max, ℤ, pos, ◌+ℤ◌, ◌*ℤ◌, neg_ℤ, refl, sym, ap, ◌∙◌, arith}
+use Rattle.std.proofs.Common.{◌≡◌, ◌≢◌, ℕ, Bool, true, false, not, List, [], ◌∷◌, map, filter, min, max, ℤ, pos, ◌+ℤ◌}
+use Rattle.std.proofs.Common.{◌*ℤ◌, neg_ℤ, refl, sym, ap, ◌∙◌, arith}
 use Rattle.std.proofs.lemmas.Int.{ints}
 use Rattle.std.specs.List.{range_with_len}
 use Rattle.std.specs.Ordering.{int_eq}
@@ -25,7 +26,8 @@ weighted-exchanged : (a b c : Spot) (x y : ℤ) → weighted a c b x y ≡ neg_�
 unfolding weighted
 weighted-exchanged a b c x y =
     rw (edge_function-turned c b x y, edge_function-turned b a x y, edge_function-turned a c x y)
-    (shares_turned (edge_function b c x y) (edge_function c a x y) (edge_function a b x y) (pos a.z) (pos b.z) (pos c.z))
+    (shares_turned (edge_function b c x y) (edge_function c a x y) (edge_function a b x y) (pos a.z) (pos b.z)
+    (pos c.z))
 
 divisor-exchanged : (a b c : Spot) (x y : ℤ) → divisor a c b x y ≡ neg_ℤ (divisor a b c x y)
 unfolding divisor
@@ -36,7 +38,8 @@ divisor-exchanged a b c x y =
 -- twice the area, with a sign
 pub area-exchanged : (a b c : Spot) → edge_function a c b.x b.y ≡ neg_ℤ (edge_function a b c.x c.y)
 area-exchanged a b c =
-    sym (divisor-is a c b (pos 0) (pos 0)) ∙ divisor-exchanged a b c (pos 0) (pos 0) ∙ ap neg_ℤ (divisor-is a b c (pos 0) (pos 0))
+    sym (divisor-is a c b (pos 0) (pos 0)) ∙ divisor-exchanged a b c (pos 0) (pos 0) ∙
+    ap neg_ℤ (divisor-is a b c (pos 0) (pos 0))
 
 depth-exchanged : (a b c : Spot) (x y : ℤ) → divisor a b c x y ≢ pos 0 → depth a c b x y ≡ depth a b c x y
 unfolding depth
@@ -61,7 +64,8 @@ map-filter_same : (f g : ℕ → ℕ × ℕ) (p q : ℕ → Bool) → ((k : ℕ)
 map-filter_same f g p q same_f same_p [] = refl
 map-filter_same f g p q same_f same_p (x ∷ xs) = step (q x) (map-filter_same f g p q same_f same_p xs) (same_p x) refl
   where
-    step : (b : Bool) → map f (filter p xs) ≡ map g (filter q xs) → p x ≡ b → q x ≡ b → map f (filter p (x ∷ xs)) ≡ map g (filter q (x ∷ xs))
+    step : (b : Bool) → map f (filter p xs) ≡ map g (filter q xs) → p x ≡ b → q x ≡ b →
+        map f (filter p (x ∷ xs)) ≡ map g (filter q (x ∷ xs))
     step true more e i = rw (e, i, same_f x, more) refl
     step false more e i = rw (e, i) more
 
@@ -70,6 +74,7 @@ pub words_in-exchanged : (d : ScreenTriangle) (first count : ℕ) → edge_funct
 unfolding words_in covers word_at
 words_in-exchanged d first count nonzero =
     map-filter_same (draw_at (exchanged d)) (draw_at d) (is_covered (exchanged d)) (is_covered d)
-    (λ k. ap (λ z. (k, word_of z d.cluster d.tri)) (depth-exchanged d.a d.b d.c _ _ (λ e. nonzero (sym (divisor-is d.a d.b d.c _ _) ∙ e))))
+    (λ k. ap (λ z. (k, word_of z d.cluster d.tri))
+    (depth-exchanged d.a d.b d.c _ _ (λ e. nonzero (sym (divisor-is d.a d.b d.c _ _) ∙ e))))
     (λ k. ap (λ w. not (int_eq w (pos 0))) (winding-turned d.a d.b d.c _ _) ∙ same_round (winding d.a d.b d.c _ _))
     (range_with_len first count)

@@ -1,5 +1,6 @@
 -- That the differences, products and sums of coordinates within a type's reach are numbers that the type holds.
-use Rattle.std.proofs.Common.{◌≡◌, ℕ, ◌+◌, ◌*◌, ◌^◌, ◌<◌, ◌≤◌, ℤ, pos, ◌+ℤ◌, ◌-ℤ◌, ◌*ℤ◌, ◌<ℤ◌, ◌≤ℤ◌, unsigned_abs, to_z, of_z, w64, refl, lit<, arith, mul-le-mul}
+use Rattle.std.proofs.Common.{◌≡◌, ℕ, ◌+◌, ◌*◌, ◌^◌, ◌<◌, ◌≤◌, ℤ, pos, ◌+ℤ◌, ◌-ℤ◌, ◌*ℤ◌, ◌<ℤ◌, ◌≤ℤ◌, unsigned_abs, to_z}
+use Rattle.std.proofs.Common.{of_z, w64, refl, lit<, arith, mul-le-mul}
 use Rattle.std.proofs.lemmas.Int.{ints}
 use Rattle.geom_core.specs.declared.limits.TheConstants.{SUBPIXELS, MAX_SIDE, MAX_DEPTH, MAX_SCREEN_COORDINATE}
 use Rattle.geom_core.specs.declared.screens.Spot.{Spot}
@@ -22,7 +23,8 @@ pub difference : (m : ℕ) (a b : ℤ) → m ≤ MAX_SCREEN_COORDINATE → unsig
     to_z w64 (of_z w64 a) -ℤ to_z w64 (of_z w64 b) ≡ a -ℤ b
 difference m a b limit p q = rw (word m a limit p, word m b limit q) refl
 
-pub word_size : (m : ℕ) (z : ℤ) → m ≤ MAX_SCREEN_COORDINATE → unsigned_abs z ≤ m → unsigned_abs (to_z w64 (of_z w64 z)) ≤ MAX_SCREEN_COORDINATE
+pub word_size : (m : ℕ) (z : ℤ) → m ≤ MAX_SCREEN_COORDINATE → unsigned_abs z ≤ m →
+    unsigned_abs (to_z w64 (of_z w64 z)) ≤ MAX_SCREEN_COORDINATE
 word_size m z limit h = rw (word m z limit h) (omega arith)
 
 -- the product of two differences
@@ -37,13 +39,15 @@ pub edge_size : (m most : ℕ) (s t : Spot) (x y : ℤ) → 4 * (8 * (m * m) * M
     IsWithin m s → IsWithin m t → unsigned_abs x ≤ m → unsigned_abs y ≤ m →
     unsigned_abs (edge_function s t x y) ≤ most
 edge_size m most s t x y limit from to at_x at_y =
-    let size = edge_function-near m s t x y (record { x = from.x; y = from.y }) (record { x = to.x; y = to.y }) at_x at_y in
+    let size = edge_function-near m s t x y (record { x = from.x; y = from.y })
+    (record { x = to.x; y = to.y }) at_x at_y in
     omega arith
 
 -- ---- the crossing column
 
 -- a height between two ends is within reach
-pub height_size : (m : ℕ) (lo hi y : ℤ) → unsigned_abs lo ≤ m → unsigned_abs hi ≤ m → lo ≤ℤ y → y <ℤ hi → unsigned_abs y ≤ m
+pub height_size : (m : ℕ) (lo hi y : ℤ) → unsigned_abs lo ≤ m → unsigned_abs hi ≤ m → lo ≤ℤ y → y <ℤ hi →
+    unsigned_abs y ≤ m
 height_size m lo hi y p q from before = omega (arith, ints)
 
 -- how far the column is from the lesser end
@@ -68,14 +72,17 @@ two_shares most p q y z at_y at_z of_p of_q =
     omega arith
 
 pub three_shares : (most : ℕ) (a b c : Spot) (p q r : ℤ) → a.z ≤ MAX_DEPTH → b.z ≤ MAX_DEPTH → c.z ≤ MAX_DEPTH →
-    3 * (unsigned_abs p * MAX_DEPTH) ≤ most → 3 * (unsigned_abs q * MAX_DEPTH) ≤ most → 3 * (unsigned_abs r * MAX_DEPTH) ≤ most →
+    3 * (unsigned_abs p * MAX_DEPTH) ≤ most → 3 * (unsigned_abs q * MAX_DEPTH) ≤ most →
+    3 * (unsigned_abs r * MAX_DEPTH) ≤ most →
     unsigned_abs (by_depths a b c p q r) ≤ most
 three_shares most a b c p q r at_a at_b at_c of_p of_q of_r =
     let by_p = size-mul p (pos a.z) (unsigned_abs p) MAX_DEPTH (omega arith) at_a in
     let by_q = size-mul q (pos b.z) (unsigned_abs q) MAX_DEPTH (omega arith) at_b in
     let by_r = size-mul r (pos c.z) (unsigned_abs r) MAX_DEPTH (omega arith) at_c in
-    let two = size-add (p *ℤ pos a.z) (q *ℤ pos b.z) (unsigned_abs p * MAX_DEPTH) (unsigned_abs q * MAX_DEPTH) by_p by_q in
-    let all = size-add (p *ℤ pos a.z +ℤ q *ℤ pos b.z) (r *ℤ pos c.z) (unsigned_abs p * MAX_DEPTH + unsigned_abs q * MAX_DEPTH)
+    let two = size-add (p *ℤ pos a.z) (q *ℤ pos b.z) (unsigned_abs p * MAX_DEPTH)
+    (unsigned_abs q * MAX_DEPTH) by_p by_q in
+    let all = size-add (p *ℤ pos a.z +ℤ q *ℤ pos b.z) (r *ℤ pos c.z)
+    (unsigned_abs p * MAX_DEPTH + unsigned_abs q * MAX_DEPTH)
     (unsigned_abs r * MAX_DEPTH) two by_r in
     omega arith
 
@@ -84,7 +91,8 @@ pub edge_share : (m most : ℕ) (s t : Spot) (x y : ℤ) → 4 * (8 * (m * m) * 
     IsWithin m s → IsWithin m t → unsigned_abs x ≤ m → unsigned_abs y ≤ m →
     3 * (unsigned_abs (edge_function s t x y) * MAX_DEPTH) ≤ most
 edge_share m most s t x y limit from to at_x at_y =
-    let size = edge_function-near m s t x y (record { x = from.x; y = from.y }) (record { x = to.x; y = to.y }) at_x at_y in
+    let size = edge_function-near m s t x y (record { x = from.x; y = from.y })
+    (record { x = to.x; y = to.y }) at_x at_y in
     omega arith
 
 -- what the weighted sum grows by, 16 times three shares of a difference
@@ -98,7 +106,8 @@ growth_size m a b c centres at_a at_b at_c z_a z_b z_c =
     let r = size-sub a.y b.y m m at_a.y at_b.y in
     let sum = three_shares (3 * ((m + m) * MAX_DEPTH)) a b c (b.y -ℤ c.y) (c.y -ℤ a.y) (a.y -ℤ b.y) z_a z_b z_c
     (omega arith) (omega arith) (omega arith) in
-    let all = size-mul (by_depths a b c (b.y -ℤ c.y) (c.y -ℤ a.y) (a.y -ℤ b.y)) (pos SUBPIXELS) (3 * ((m + m) * MAX_DEPTH)) SUBPIXELS sum (omega arith) in
+    let all = size-mul (by_depths a b c (b.y -ℤ c.y) (c.y -ℤ a.y) (a.y -ℤ b.y)) (pos SUBPIXELS)
+    (3 * ((m + m) * MAX_DEPTH)) SUBPIXELS sum (omega arith) in
     let square : 2 ^ 14 * m ≤ m * m = mul-le-mul centres (omega arith) in
     omega arith
 
@@ -113,7 +122,8 @@ weighted_size m a b c x y at_a at_b at_c at_x at_y z_a z_b z_c =
 pub area_size : (m : ℕ) (a b c : Spot) → IsWithin m a → IsWithin m b → IsWithin m c →
     unsigned_abs (edge_function a b c.x c.y) ≤ 8 * (m * m)
 area_size m a b c at_a at_b at_c =
-    edge_function-near m a b c.x c.y (record { x = at_a.x; y = at_a.y }) (record { x = at_b.x; y = at_b.y }) at_c.x at_c.y
+    edge_function-near m a b c.x c.y (record { x = at_a.x; y = at_a.y })
+    (record { x = at_b.x; y = at_b.y }) at_c.x at_c.y
 
 -- a weighted sum is less than the type holds, and one more
 pub weighted_fits : (m most k : ℕ) → NEAR_COORDINATE ≤ m → 4 * (8 * (m * m) * MAX_DEPTH) ≤ most →

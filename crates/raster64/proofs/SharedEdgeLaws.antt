@@ -1,5 +1,6 @@
 -- Two triangles on the two sides of a shared edge share no point, and a triangle's points lie within its box.
-use Rattle.std.proofs.Common.{◌≡◌, ◌≢◌, ⊎_elim, Bool, true, false, ℤ, pos, ◌+ℤ◌, ◌-ℤ◌, ◌*ℤ◌, neg_ℤ, ◌<ℤ◌, ◌≤ℤ◌, int_le, int_lt, refl, sym, ap, ◌∙◌, arith}
+use Rattle.std.proofs.Common.{◌≡◌, ◌≢◌, ⊎_elim, Bool, true, false, ℤ, pos, ◌+ℤ◌, ◌-ℤ◌, ◌*ℤ◌, neg_ℤ, ◌<ℤ◌, ◌≤ℤ◌, int_le}
+use Rattle.std.proofs.Common.{int_lt, refl, sym, ap, ◌∙◌, arith}
 use Rattle.std.proofs.lemmas.Int.{ints, clamps, by_lt_z}
 use Rattle.std.specs.Int.{int_min, int_max}
 use Rattle.geom_core.specs.declared.screens.Spot.{Spot}
@@ -10,7 +11,8 @@ use Rattle.geom_core.proofs.Signs.{product_not_positive, product_positive}
 use Rattle.geom_core.proofs.Crossings.{step, reaches, beside, winding-steps}
 use Rattle.geom_core.proofs.DivisorLaws.{divisor-is, edge_function-turned}
 use Rattle.geom_core.proofs.InterpolationLaws.{TurnsForth, winding-turns, edges_balance}
-use Rattle.geom_core.proofs.WindingLaws.{winding-rotated, winding-turned, winding-left, winding-right, winding-above, winding-below}
+use Rattle.geom_core.proofs.WindingLaws.{winding-rotated, winding-turned, winding-left, winding-right, winding-above}
+use Rattle.geom_core.proofs.WindingLaws.{winding-below}
 use Rattle.raster64.specs.Sides.{AreOpposite, IsInBox}
 use Rattle.raster64.proofs.SpanLaws.{less_false}
 
@@ -24,7 +26,8 @@ forth : (a b c : Spot) (x y : ℤ) → winding a b c x y ≢ pos 0 → pos 0 <�
 unfolding divisor
 forth a b c x y round positive =
     ⊎_elim (λ h. h)
-    (λ h. absurd (not_both (edge_function b c x y) (edge_function c a x y) (edge_function a b x y) (edge_function a b c.x c.y)
+    (λ h. absurd (not_both (edge_function b c x y) (edge_function c a x y) (edge_function a b x y)
+    (edge_function a b c.x c.y)
     (divisor-is a b c x y) positive (rw edge_function-turned at h.first) (rw edge_function-turned at h.third)
     (rw edge_function-turned at h.second)))
     (winding-turns a b c x y round)
@@ -45,7 +48,8 @@ on_first : (a b c : Spot) (x y : ℤ) → TurnsForth a b c x y → edge_function
 on_first a b c x y turns none of_a of_b =
     winding-steps a b c x y ∙
     rw (of_a, of_b)
-    (steps_first (reaches y c) (beside a b x y) (beside b a x y) (beside b c x y) (beside c b x y) (beside c a x y) (beside a c x y)
+    (steps_first (reaches y c) (beside a b x y) (beside b a x y) (beside b c x y) (beside c b x y) (beside c a x y)
+    (beside a c x y)
     (less_false (pos 0) (edge_function a b x y) none) (behind a c x y turns.second) (behind c b x y turns.first))
 
 -- ---- where the height has reached both corners, or neither
@@ -71,7 +75,8 @@ both_reached : (a b c : Spot) (x y : ℤ) → TurnsForth a b c x y → winding a
     reaches y a ≡ true → reaches y b ≡ true → Above a b c x y
 both_reached a b c x y turns round of_a of_b =
     let s : (reaches y c ≡ false) × (beside b c x y ≡ true) =
-    steps_both (reaches y c) (beside a b x y) (beside b a x y) (beside b c x y) (beside c b x y) (beside c a x y) (beside a c x y)
+    steps_both (reaches y c) (beside a b x y) (beside b a x y) (beside b c x y) (beside c b x y) (beside c a x y)
+    (beside a c x y)
     (behind a c x y turns.second)
     (λ e. round (winding-steps a b c x y ∙ rw (of_a, of_b) e)) in
     record { at_c = later c.y y s.0; across = positive (edge_function b c x y) s.1 }
@@ -123,17 +128,20 @@ one_side u p q at_p at_q h i =
     clash_low : (k : ℤ) → k ≤ℤ pos 0 → pos 0 <ℤ k → ⊥
     clash_low k j l = omega (arith, ints)
 
-neither_reached : (a b c : Spot) (x y : ℤ) → TurnsForth a b c x y → winding a b c x y ≢ pos 0 → edge_function a b x y ≡ pos 0 →
+neither_reached : (a b c : Spot) (x y : ℤ) → TurnsForth a b c x y → winding a b c x y ≢ pos 0 →
+    edge_function a b x y ≡ pos 0 →
     reaches y a ≡ false → reaches y b ≡ false → ⊥
 neither_reached a b c x y turns round flat of_a of_b =
     let s : (reaches y c ≡ true) × (beside c a x y ≡ true) =
-    steps_neither (reaches y c) (beside a b x y) (beside b a x y) (beside b c x y) (beside c b x y) (beside c a x y) (beside a c x y)
+    steps_neither (reaches y c) (beside a b x y) (beside b a x y) (beside b c x y) (beside c b x y) (beside c a x y)
+    (beside a c x y)
     (behind c b x y turns.first)
     (λ e. round (winding-steps a b c x y ∙ rw (of_a, of_b) e)) in
     let e : edge_function b c x y *ℤ neg_ℤ (a.y -ℤ y) ≡ edge_function c a x y *ℤ (b.y -ℤ y) =
     edges_balance a b c x y ∙ rw flat (none_left (edge_function c a x y *ℤ (b.y -ℤ y)) (c.y -ℤ y)) in
     clash (edge_function b c x y *ℤ neg_ℤ (a.y -ℤ y)) (edge_function c a x y *ℤ (b.y -ℤ y)) e
-    (rw product_turned (product_not_positive (neg_ℤ (a.y -ℤ y)) (edge_function b c x y) (omega (arith, ints)) turns.first))
+    (rw product_turned (product_not_positive (neg_ℤ (a.y -ℤ y)) (edge_function b c x y)
+    (omega (arith, ints)) turns.first))
     (product_positive (edge_function c a x y) (b.y -ℤ y) (positive (edge_function c a x y) s.1) (omega (arith, ints)))
   where
     clash : (k m : ℤ) → k ≡ m → k ≤ℤ pos 0 → pos 0 <ℤ m → ⊥
@@ -162,10 +170,13 @@ apart a b c d x y at_c at_d round other =
     let flat_back : edge_function b a x y ≡ pos 0 = reversed ∙ ap neg_ℤ flat in
     by_heights (reaches y a) (reaches y b) refl refl turns back flat flat_back
   where
-    by_heights : (at_a at_b : Bool) → reaches y a ≡ at_a → reaches y b ≡ at_b → TurnsForth a b c x y → TurnsForth b a d x y →
+    by_heights : (at_a at_b : Bool) → reaches y a ≡ at_a → reaches y b ≡ at_b → TurnsForth a b c x y →
+        TurnsForth b a d x y →
         edge_function a b x y ≡ pos 0 → edge_function b a x y ≡ pos 0 → ⊥
-    by_heights true false e f turns back flat flat_back = round (on_first a b c x y turns (rw flat (omega (arith, ints))) e f)
-    by_heights false true e f turns back flat flat_back = other (on_first b a d x y back (rw flat_back (omega (arith, ints))) f e)
+    by_heights true false e f turns back flat flat_back =
+        round (on_first a b c x y turns (rw flat (omega (arith, ints))) e f)
+    by_heights false true e f turns back flat flat_back =
+        other (on_first b a d x y back (rw flat_back (omega (arith, ints))) f e)
     by_heights false false e f turns back flat flat_back = neither_reached a b c x y turns round flat e f
     by_heights true true e f turns back flat flat_back =
         let above = both_reached a b c x y turns round e f in
@@ -187,7 +198,8 @@ exchanged_round a b c x y round e =
     from_turned : (w : ℤ) → neg_ℤ w ≡ pos 0 → w ≡ pos 0
     from_turned w h = omega (arith, ints)
 
-pub shared_edge : (a b c d : Spot) (x y : ℤ) → AreOpposite a b c d → winding a b c x y ≢ pos 0 → winding b a d x y ≢ pos 0 → ⊥
+pub shared_edge : (a b c d : Spot) (x y : ℤ) → AreOpposite a b c d → winding a b c x y ≢ pos 0 →
+    winding b a d x y ≢ pos 0 → ⊥
 shared_edge a b c d x y sides round other =
     ⊎_elim
     (λ h. apart a b c d x y h.0 h.1 round other)
@@ -199,11 +211,15 @@ shared_edge a b c d x y sides round other =
 pub covered_in_box : (a b c : Spot) (x y : ℤ) → winding a b c x y ≢ pos 0 → IsInBox a b c x y
 covered_in_box a b c x y round = record {
   left = by_lt_z x (int_min a.x (int_min b.x c.x))
-      (λ h. absurd (round (winding-left a b c x y (omega (arith, ints, clamps)) (omega (arith, ints, clamps)) (omega (arith, ints, clamps))))) (λ h. h);
+      (λ h. absurd (round (winding-left a b c x y (omega (arith, ints, clamps)) (omega (arith, ints, clamps))
+      (omega (arith, ints, clamps))))) (λ h. h);
   right = by_lt_z x (int_max a.x (int_max b.x c.x)) (λ h. h)
-      (λ h. absurd (round (winding-right a b c x y (omega (arith, ints, clamps)) (omega (arith, ints, clamps)) (omega (arith, ints, clamps)))));
+      (λ h. absurd (round (winding-right a b c x y (omega (arith, ints, clamps)) (omega (arith, ints, clamps))
+      (omega (arith, ints, clamps)))));
   top = by_lt_z y (int_min a.y (int_min b.y c.y))
-      (λ h. absurd (round (winding-above a b c x y (omega (arith, ints, clamps)) (omega (arith, ints, clamps)) (omega (arith, ints, clamps))))) (λ h. h);
+      (λ h. absurd (round (winding-above a b c x y (omega (arith, ints, clamps)) (omega (arith, ints, clamps))
+      (omega (arith, ints, clamps))))) (λ h. h);
   bottom = by_lt_z y (int_max a.y (int_max b.y c.y)) (λ h. h)
-      (λ h. absurd (round (winding-below a b c x y (omega (arith, ints, clamps)) (omega (arith, ints, clamps)) (omega (arith, ints, clamps)))));
+      (λ h. absurd (round (winding-below a b c x y (omega (arith, ints, clamps)) (omega (arith, ints, clamps))
+      (omega (arith, ints, clamps)))));
 }

@@ -1,6 +1,7 @@
 -- At each height a triangle winds round the points of one half-open span: from the lesser crossing column of the two
 -- edges that span the height, and before the greater one.
-use Rattle.std.proofs.Common.{◌≡◌, ◌≢◌, ◌↔◌, IsTrue, Bool, true, false, not, ◌&&◌, ℤ, pos, ◌+ℤ◌, ◌-ℤ◌, ◌*ℤ◌, ◌<ℤ◌, ◌≤ℤ◌, int_lt, int_le, refl, sym, ap, ◌∙◌, arith}
+use Rattle.std.proofs.Common.{◌≡◌, ◌≢◌, ◌↔◌, IsTrue, Bool, true, false, not, ◌&&◌, ℤ, pos, ◌+ℤ◌, ◌-ℤ◌, ◌*ℤ◌, ◌<ℤ◌, ◌≤ℤ◌}
+use Rattle.std.proofs.Common.{int_lt, int_le, refl, sym, ap, ◌∙◌, arith}
 use Rattle.std.proofs.lemmas.Int.{ints, clamps, by_lt_z}
 use Rattle.std.specs.Int.{int_min, int_max}
 use Rattle.std.specs.Ordering.{int_eq}
@@ -80,11 +81,31 @@ unfolding is_between
 between-differ p q x =
     by_lt_z x p
     (λ p_above. by_lt_z x q
-    (λ q_above. rw (less_true x p p_above, less_true x q q_above, at_most_false (int_min p q) x (omega (arith, ints, clamps))) refl)
-    (λ q_below. rw (less_true x p p_above, less_false x q q_below, at_most_true (int_min p q) x (omega (arith, ints, clamps)), less_true x (int_max p q) (omega (arith, ints, clamps))) refl))
+    (λ q_above. rw (
+      less_true x p p_above,
+      less_true x q q_above,
+      at_most_false (int_min p q) x (omega (arith, ints, clamps)),
+    ) refl)
+    (λ q_below. rw (
+      less_true x p p_above,
+      less_false x q q_below,
+      at_most_true (int_min p q) x (omega (arith, ints, clamps)),
+      less_true x (int_max p q) (omega (arith, ints, clamps)),
+    )
+    refl))
     (λ p_below. by_lt_z x q
-    (λ q_above. rw (less_false x p p_below, less_true x q q_above, at_most_true (int_min p q) x (omega (arith, ints, clamps)), less_true x (int_max p q) (omega (arith, ints, clamps))) refl)
-    (λ q_below. rw (less_false x p p_below, less_false x q q_below, less_false x (int_max p q) (omega (arith, ints, clamps))) (none (int_le (int_min p q) x))))
+    (λ q_above. rw (
+      less_false x p p_below,
+      less_true x q q_above,
+      at_most_true (int_min p q) x (omega (arith, ints, clamps)),
+      less_true x (int_max p q) (omega (arith, ints, clamps)),
+    )
+    refl)
+    (λ q_below. rw (
+      less_false x p p_below,
+      less_false x q q_below,
+      less_false x (int_max p q) (omega (arith, ints, clamps)),
+    ) (none (int_le (int_min p q) x))))
   where
     none : (b : Bool) → (b && false) ≡ false
     none true = refl
@@ -153,17 +174,23 @@ unfolding is_in_span_by
 span_by true true true ab ba bc cb ca ac a b c x y f₁ f₂ f₃ f₄ f₅ f₆ = refl
 span_by false false false ab ba bc cb ca ac a b c x y f₁ f₂ f₃ f₄ f₅ f₆ = refl
 span_by true false false ab ba bc cb ca ac a b c x y f₁ f₂ f₃ f₄ f₅ f₆ =
-    both _ ab ac x (crossing_column a b y) (crossing_column a c y) (one_first ab ba bc cb ca ac) (f₁ refl refl) (f₆ refl refl)
+    both _ ab ac x (crossing_column a b y) (crossing_column a c y) (one_first ab ba bc cb ca ac) (f₁ refl refl)
+    (f₆ refl refl)
 span_by false true false ab ba bc cb ca ac a b c x y f₁ f₂ f₃ f₄ f₅ f₆ =
-    both _ bc ba x (crossing_column b c y) (crossing_column b a y) (one_second ab ba bc cb ca ac) (f₃ refl refl) (f₂ refl refl)
+    both _ bc ba x (crossing_column b c y) (crossing_column b a y) (one_second ab ba bc cb ca ac) (f₃ refl refl)
+    (f₂ refl refl)
 span_by false false true ab ba bc cb ca ac a b c x y f₁ f₂ f₃ f₄ f₅ f₆ =
-    both _ ca cb x (crossing_column c a y) (crossing_column c b y) (one_third ab ba bc cb ca ac) (f₅ refl refl) (f₄ refl refl)
+    both _ ca cb x (crossing_column c a y) (crossing_column c b y) (one_third ab ba bc cb ca ac) (f₅ refl refl)
+    (f₄ refl refl)
 span_by false true true ab ba bc cb ca ac a b c x y f₁ f₂ f₃ f₄ f₅ f₆ =
-    both _ ba ca x (crossing_column b a y) (crossing_column c a y) (all_but_first ab ba bc cb ca ac) (f₂ refl refl) (f₅ refl refl)
+    both _ ba ca x (crossing_column b a y) (crossing_column c a y) (all_but_first ab ba bc cb ca ac) (f₂ refl refl)
+    (f₅ refl refl)
 span_by true false true ab ba bc cb ca ac a b c x y f₁ f₂ f₃ f₄ f₅ f₆ =
-    both _ ab cb x (crossing_column a b y) (crossing_column c b y) (all_but_second ab ba bc cb ca ac) (f₁ refl refl) (f₄ refl refl)
+    both _ ab cb x (crossing_column a b y) (crossing_column c b y) (all_but_second ab ba bc cb ca ac) (f₁ refl refl)
+    (f₄ refl refl)
 span_by true true false ab ba bc cb ca ac a b c x y f₁ f₂ f₃ f₄ f₅ f₆ =
-    both _ ac bc x (crossing_column a c y) (crossing_column b c y) (all_but_third ab ba bc cb ca ac) (f₆ refl refl) (f₃ refl refl)
+    both _ ac bc x (crossing_column a c y) (crossing_column b c y) (all_but_third ab ba bc cb ca ac) (f₆ refl refl)
+    (f₃ refl refl)
 
 edge_crosses : (lo hi : Spot) (x y : ℤ) → Crosses (reaches y lo) (reaches y hi) (beside lo hi x y) lo hi x y
 edge_crosses lo hi x y at_lo at_hi = beside-column lo hi x y (rises at_lo at_hi)

@@ -1,6 +1,7 @@
 -- The words of a stretch of pixels: of two stretches in a row, of one without a covered pixel, of one
 -- pixel, and of a stretch within a row or a picture.
-use Rattle.std.proofs.Common.{◌≡◌, ◌<◌, ◌≤◌, ◌+◌, ◌-◌, ◌*◌, ◌/◌, ◌%◌, ℕ, zero, suc, Bool, true, false, not, [], ◌∷◌, ◌++◌, filter, ⊎_elim, ℤ, pos, ◌≤ℤ◌, ◌<ℤ◌, refl, sym, ap, ◌∙◌, zero-add, arith}
+use Rattle.std.proofs.Common.{◌≡◌, ◌<◌, ◌≤◌, ◌+◌, ◌-◌, ◌*◌, ◌/◌, ◌%◌, ℕ, zero, suc, Bool, true, false, not, [], ◌∷◌}
+use Rattle.std.proofs.Common.{◌++◌, filter, ⊎_elim, ℤ, pos, ◌≤ℤ◌, ◌<ℤ◌, refl, sym, ap, ◌∙◌, zero-add, arith}
 use Rattle.std.proofs.lemmas.Bool.{cases_lt}
 use Rattle.std.proofs.lemmas.List.{map-append, append-nil}
 use Rattle.std.proofs.lemmas.List.Elements.{filter-append}
@@ -26,7 +27,8 @@ range-append a (suc m) n =
     let f : a + 1 + m ≡ a + suc m = omega arith in
     rw e (ap (λ xs. a ∷ xs) (range-append (a + 1) m n ∙ ap (λ b. range_with_len (a + 1) m ++ range_with_len b n) f))
 
-filter-range_none : (p : ℕ → Bool) (a n : ℕ) → ((k : ℕ) → k < n → p (a + k) ≡ false) → filter p (range_with_len a n) ≡ []
+filter-range_none : (p : ℕ → Bool) (a n : ℕ) → ((k : ℕ) → k < n → p (a + k) ≡ false) →
+    filter p (range_with_len a n) ≡ []
 filter-range_none p a zero none = refl
 filter-range_none p a (suc n) none =
     let here : p a ≡ false = ap p (omega arith) ∙ none 0 (omega arith) in
@@ -37,10 +39,12 @@ pub words_in-append : (d : ScreenTriangle) (a m n : ℕ) → words_in d a (m + n
 unfolding words_in
 words_in-append d a m n =
     rw (range-append a m n, filter-append (is_covered d) (range_with_len a m) (range_with_len (a + m) n))
-    (map-append (draw_at d) (filter (is_covered d) (range_with_len a m)) (filter (is_covered d) (range_with_len (a + m) n)))
+    (map-append (draw_at d) (filter (is_covered d) (range_with_len a m))
+    (filter (is_covered d) (range_with_len (a + m) n)))
 
 -- a stretch without a covered pixel
-pub words_in-none : (d : ScreenTriangle) (a n : ℕ) → ((k : ℕ) → k < n → is_covered d (a + k) ≡ false) → words_in d a n ≡ []
+pub words_in-none : (d : ScreenTriangle) (a n : ℕ) → ((k : ℕ) → k < n → is_covered d (a + k) ≡ false) →
+    words_in d a n ≡ []
 unfolding words_in
 words_in-none d a n none = rw (filter-range_none (is_covered d) a n none) refl
 
@@ -49,16 +53,14 @@ pub words_in-one : (d : ScreenTriangle) (a : ℕ) → is_covered d a ≡ true �
 unfolding words_in
 words_in-one d a here = rw here refl
 
-pub words_in-one_missed : (d : ScreenTriangle) (a : ℕ) → is_covered d a ≡ false → words_in d a 1 ≡ []
-unfolding words_in
-words_in-one_missed d a here = rw here refl
-
 -- a stretch and a longer one whose further pixels aren't covered
-pub words_in-longer : (d : ScreenTriangle) (a m n : ℕ) → m ≤ n → ((k : ℕ) → m ≤ k → k < n → is_covered d (a + k) ≡ false) → words_in d a n ≡ words_in d a m
+pub words_in-longer : (d : ScreenTriangle) (a m n : ℕ) → m ≤ n →
+    ((k : ℕ) → m ≤ k → k < n → is_covered d (a + k) ≡ false) → words_in d a n ≡ words_in d a m
 words_in-longer d a m n h none =
     let e : n ≡ m + (n - m) = omega arith in
     ap (words_in d a) e ∙ words_in-append d a m (n - m) ∙
-    ap (λ xs. words_in d a m ++ xs) (words_in-none d (a + m) (n - m) (λ k i. ap (is_covered d) (omega arith) ∙ none (m + k) (omega arith) (omega arith))) ∙
+    ap (λ xs. words_in d a m ++ xs) (words_in-none d (a + m) (n - m) (λ k i. ap (is_covered d) (omega arith) ∙
+    none (m + k) (omega arith) (omega arith))) ∙
     append-nil (words_in d a m)
 
 -- ---- the pixel in a column of a row
@@ -76,7 +78,8 @@ draw_at-at d row column h = rw (mod-mul-add row d.size.width column h, div-mul-a
 
 -- ---- pixels outside the triangle's box
 
-missed : (d : ScreenTriangle) (row column : ℕ) → column < d.size.width → winding d.a d.b d.c (centre column) (centre row) ≡ pos 0 →
+missed : (d : ScreenTriangle) (row column : ℕ) → column < d.size.width →
+    winding d.a d.b d.c (centre column) (centre row) ≡ pos 0 →
     is_covered d (row * d.size.width + column) ≡ false
 missed d row column h e = is_covered-at d row column h ∙ ap (λ w. not (int_eq w (pos 0))) e
 
@@ -93,15 +96,18 @@ pub is_covered-span : (d : ScreenTriangle) (row column : ℕ) → column < d.siz
 is_covered-span d row column h = is_covered-at d row column h ∙ winding-span d.a d.b d.c (centre column) (centre row)
 
 -- the words of a stretch where the covered pixels are in a range
-pub words_in-range : (d : ScreenTriangle) (a first end count : ℕ) → AreInRange (λ k. is_covered d (a + k)) first end count →
+pub words_in-range : (d : ScreenTriangle) (a first end count : ℕ) →
+    AreInRange (λ k. is_covered d (a + k)) first end count →
     words_in d a count ≡ words_in d a end
 words_in-range d a first end count r = words_in-longer d a end count r.limit (λ k h i. r.after k h i)
 
-pub words_in-before : (d : ScreenTriangle) (a first end count : ℕ) → AreInRange (λ k. is_covered d (a + k)) first end count →
+pub words_in-before : (d : ScreenTriangle) (a first end count : ℕ) →
+    AreInRange (λ k. is_covered d (a + k)) first end count →
     words_in d a first ≡ []
 words_in-before d a first end count r = words_in-none d a first (λ k h. r.before k h)
 
-pub words_in-empty : (d : ScreenTriangle) (a first end count : ℕ) → AreInRange (λ k. is_covered d (a + k)) first end count →
+pub words_in-empty : (d : ScreenTriangle) (a first end count : ℕ) →
+    AreInRange (λ k. is_covered d (a + k)) first end count →
     end ≤ first → words_in d a count ≡ []
 words_in-empty d a first end count r h =
     let order = r.order in
@@ -112,7 +118,8 @@ words_in-empty d a first end count r h =
 pixel_missed : (d : ScreenTriangle) (k : ℕ) → 0 < d.size.width →
     winding d.a d.b d.c (centre (k % d.size.width)) (centre (k / d.size.width)) ≡ pos 0 → is_covered d k ≡ false
 pixel_missed d k h e =
-    ap (is_covered d) (sym (div-add-mod' k d.size.width)) ∙ missed d (k / d.size.width) (k % d.size.width) (omega arith) e
+    ap (is_covered d) (sym (div-add-mod' k d.size.width)) ∙
+    missed d (k / d.size.width) (k % d.size.width) (omega arith) e
 
 -- no pixel of the rows before the first one is covered
 pub words_in-above : (d : ScreenTriangle) (first : ℕ) → 0 < d.size.width →
@@ -121,7 +128,8 @@ words_in-above d first wide before =
     words_in-none d 0 (first * d.size.width) (λ k h.
     let b = before (k / d.size.width) ((div-lt_iff_lt-mul wide).1 h) in
     ap (is_covered d) (zero-add k) ∙
-    pixel_missed d k wide (winding-above d.a d.b d.c (centre (k % d.size.width)) (centre (k / d.size.width)) b.0 b.1 b.2))
+    pixel_missed d k wide (winding-above d.a d.b d.c (centre (k % d.size.width))
+    (centre (k / d.size.width)) b.0 b.1 b.2))
 
 -- the words of the picture are those of the rows before the end
 pub words_in-picture : (d : ScreenTriangle) (end : ℕ) → 0 < d.size.width → end ≤ d.size.height →
@@ -134,7 +142,8 @@ words_in-picture d end wide fits after =
     let below : k < d.size.height * d.size.width = omega (arith, mul_comm d.size.width d.size.height) in
     let a = after (k / d.size.width) ((le-div_iff_mul-le wide).1 h) ((div-lt_iff_lt-mul wide).1 below) in
     ap (is_covered d) (zero-add k) ∙
-    pixel_missed d k wide (winding-below d.a d.b d.c (centre (k % d.size.width)) (centre (k / d.size.width)) a.0 a.1 a.2))
+    pixel_missed d k wide (winding-below d.a d.b d.c (centre (k % d.size.width))
+    (centre (k / d.size.width)) a.0 a.1 a.2))
 
 -- no pixel is covered where all columns lie before the triangle or after it
 pub words_in-beside : (d : ScreenTriangle) (end n : ℕ) → 0 < d.size.width →
@@ -142,7 +151,8 @@ pub words_in-beside : (d : ScreenTriangle) (end n : ℕ) → 0 < d.size.width �
     ((k : ℕ) → end ≤ k → k < d.size.width → After (centre k) d.a.x d.b.x d.c.x) → words_in d 0 n ≡ []
 words_in-beside d end n wide before after =
     words_in-none d 0 n (λ k h.
-    ap (is_covered d) (zero-add k) ∙ pixel_missed d k wide (round (k % d.size.width) (centre (k / d.size.width)) (omega arith)))
+    ap (is_covered d) (zero-add k) ∙ pixel_missed d k wide
+    (round (k % d.size.width) (centre (k / d.size.width)) (omega arith)))
   where
     round : (column : ℕ) (y : ℤ) → column < d.size.width → winding d.a d.b d.c (centre column) y ≡ pos 0
     round column y h =
@@ -154,9 +164,11 @@ words_in-beside d end n wide before after =
         by_lt a b p q = ⊎_elim p q (cases_lt a b)
 
 -- no pixel is covered by a triangle without an area
-pub words_in-flat : (d : ScreenTriangle) (n : ℕ) → 0 < d.size.width → edge_function d.a d.b d.c.x d.c.y ≡ pos 0 → words_in d 0 n ≡ []
+pub words_in-flat : (d : ScreenTriangle) (n : ℕ) → 0 < d.size.width → edge_function d.a d.b d.c.x d.c.y ≡ pos 0 →
+    words_in d 0 n ≡ []
 words_in-flat d n wide flat =
     words_in-none d 0 n (λ k h.
     let x = centre (k % d.size.width) in
     let y = centre (k / d.size.width) in
-    ap (is_covered d) (zero-add k) ∙ pixel_missed d k wide (winding-flat d.a d.b d.c x y (divisor-is d.a d.b d.c x y ∙ flat)))
+    ap (is_covered d) (zero-add k) ∙ pixel_missed d k wide
+    (winding-flat d.a d.b d.c x y (divisor-is d.a d.b d.c x y ∙ flat)))

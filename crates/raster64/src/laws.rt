@@ -8,7 +8,8 @@ ghost use Rattle.raster64.specs.Span.{is_in_span};
 /// edges that span the height, and before the greater one; and no point where no edge spans the height.
 #[tactic(auto, using(crate::proofs::SpanLaws::rows_are_spans))]
 pub fn rows_are_spans()
-    ensures { (a b c : Spot) (x y : ℤ) → (winding a b c x y ≢ pos 0) ↔ IsTrue (is_in_span a b c x y) }
+    ensures { (a b c : Spot) (x y : ℤ) → (winding a b c x y ≢ pos 0)
+        ↔ IsTrue (is_in_span a b c x y) }
 {}
 
 /// Two triangles that share an edge and lie on its two sides share no pixel: no point has both windings not 0.

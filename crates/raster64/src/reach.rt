@@ -11,7 +11,8 @@ pub(crate) const NEAR_COORDINATE: u32 = 2 * SUBPIXELS * MAX_SIDE;
 
 /// Whether a coordinate is near the picture.
 fn is_near_coordinate(v: i64) -> bool
-    ensures { result ≡ true → unsigned_abs v ≤ NEAR_COORDINATE }
+    ensures within { result ≡ true → unsigned_abs v ≤ NEAR_COORDINATE }
+    ensures near { unsigned_abs v ≤ NEAR_COORDINATE → result ≡ true }
 {
     let near = i64::from(NEAR_COORDINATE);
     -near <= v && v <= near
@@ -19,15 +20,18 @@ fn is_near_coordinate(v: i64) -> bool
 
 /// Whether both coordinates of the spot are near the picture.
 fn is_near(s: Spot) -> bool
-    ensures { result ≡ true → IsWithin NEAR_COORDINATE s }
+    ensures within { result ≡ true → IsWithin NEAR_COORDINATE s }
+    ensures near { IsWithin NEAR_COORDINATE s → result ≡ true }
 {
     is_near_coordinate(s.x) && is_near_coordinate(s.y)
 }
 
 /// Whether the three spots are near the picture.
 pub(crate) fn are_near(a: Spot, b: Spot, c: Spot) -> bool
-    ensures { result ≡ true
+    ensures within { result ≡ true
         → IsWithin NEAR_COORDINATE a × IsWithin NEAR_COORDINATE b × IsWithin NEAR_COORDINATE c }
+    ensures near { IsWithin NEAR_COORDINATE a → IsWithin NEAR_COORDINATE b
+        → IsWithin NEAR_COORDINATE c → result ≡ true }
 {
     is_near(a) && is_near(b) && is_near(c)
 }

@@ -1,2 +1,6 @@
+pub mod ClearTexts
 mod Examples
+pub mod JournalLines
+pub mod ReadBack
+pub mod SpacedFields
 mod TextRows

@@ -1,16 +1,19 @@
 -- The text of a picture, one word and one row further.
-use Rattle.std.proofs.Common.{◌≡◌, ℕ, ◌+◌, ◌-◌, ◌*◌, ◌/◌, ◌<◌, ◌≤◌, List, [], ◌∷◌, ◌++◌, zero, suc, length, take, drop, map, get_or, refl, sym, ◌∙◌, ap, arith, append_assoc}
+use Rattle.std.proofs.Common.{◌≡◌, ℕ, ◌+◌, ◌-◌, ◌*◌, ◌/◌, ◌<◌, ◌≤◌, List, [], ◌∷◌, ◌++◌, zero, suc, length, take}
+use Rattle.std.proofs.Common.{drop, map, get_or, refl, sym, ◌∙◌, ap, arith, append_assoc}
 use Rattle.std.specs.Prelude.{flat_map}
 use Rattle.std.specs.List.{join_with_byte, range_with_len}
 use Rattle.std.proofs.lemmas.List.{append-nil, length-map, length-take, map_more, map-id, flat_map_more}
 use Rattle.std.proofs.lemmas.List.FromFn.{map-range_with_len_more}
+use Rattle.report_text.specs.FrameText.{comment_line}
 use Rattle.report_text.specs.PictureText.{word_text, row_text, row_of, picture_text_of}
 
 -- the text of the rows above row n
 abbrev pub rows_above : List ℕ → ℕ → ℕ → List ℕ
 rows_above words width n = flat_map (λ j. row_text (row_of words width j) ++ 10 ∷ []) (range_with_len 0 n)
 
-pub picture_text_of-rows : (words : List ℕ) (width : ℕ) → rows_above words width (length words / width) ≡ picture_text_of words width
+pub picture_text_of-rows : (words : List ℕ) (width : ℕ) →
+    rows_above words width (length words / width) ≡ picture_text_of words width
 unfolding picture_text_of
 picture_text_of-rows words width = refl
 
@@ -62,7 +65,8 @@ pub word_put_first : (before so_far mid after words : List ℕ) (i : ℕ) → i 
     so_far ≡ before ++ row_text (take i words) → mid ≡ so_far → after ≡ mid ++ word_text (get_or words i 0) →
     after ≡ before ++ row_text (take (i + 1) words)
 word_put_first before so_far mid after words zero early within kept gap put =
-    put ∙ ap (λ (l : List ℕ). l ++ word_text (get_or words 0 0)) (gap ∙ kept ∙ ap (λ (l : List ℕ). before ++ l) row_text-none ∙ append-nil before)
+    put ∙ ap (λ (l : List ℕ). l ++ word_text (get_or words 0 0)) (gap ∙ kept
+    ∙ ap (λ (l : List ℕ). before ++ l) row_text-none ∙ append-nil before)
     ∙ ap (λ (l : List ℕ). before ++ l) (sym (row_text-first words within))
 word_put_first before so_far mid after words (suc i) early within kept gap put = absurd (omega arith)
 
@@ -84,7 +88,26 @@ pub row_put : (before mid after words : List ℕ) (width j : ℕ) → before ≡
 row_put before mid after words width j above row put =
     let row_is : List ℕ → List ℕ = λ (l : List ℕ). (rows_above words width j ++ l) ++ 10 ∷ [] in
     let wide : (j + 1) * width - j * width ≡ width = omega arith in
-    put ∙ ap (λ (l : List ℕ). l ++ 10 ∷ []) (row ∙ ap (λ (l : List ℕ). l ++ row_text (take ((j + 1) * width - j * width) (drop (j * width) words))) above)
+    put ∙ ap (λ (l : List ℕ). l ++ 10 ∷ []) (row
+    ∙ ap (λ (l : List ℕ). l ++ row_text (take ((j + 1) * width - j * width) (drop (j * width) words))) above)
     ∙ ap (λ (n : ℕ). row_is (row_text (take n (drop (j * width) words)))) wide
     ∙ append_assoc (rows_above words width j) (row_text (row_of words width j)) (10 ∷ [])
     ∙ rows_above-more words width j
+
+-- the comment lines of the rows above row n
+abbrev pub comments_above : List ℕ → ℕ → ℕ → List ℕ
+comments_above words width n = flat_map comment_line (map (λ j. row_text (row_of words width j)) (range_with_len 0 n))
+
+-- the line of a row, below those above it
+pub comment_row_put : (before so_far after words : List ℕ) (width j : ℕ) →
+    so_far ≡ before ++ comments_above words width j →
+    after ≡ so_far ++ comment_line (row_text (take ((j + 1) * width - j * width) (drop (j * width) words))) →
+    after ≡ before ++ comments_above words width (j + 1)
+comment_row_put before so_far after words width j above put =
+    let text : ℕ → List ℕ = λ (i : ℕ). row_text (row_of words width i) in
+    let wide : (j + 1) * width - j * width ≡ width = omega arith in
+    put ∙ ap (λ (n : ℕ). so_far ++ comment_line (row_text (take n (drop (j * width) words)))) wide
+    ∙ ap (λ (l : List ℕ). l ++ comment_line (text j)) above
+    ∙ flat_map_more comment_line before (map text (range_with_len 0 j)) (text j)
+    ∙ ap (λ (l : List (List ℕ)). before ++ flat_map comment_line l)
+    (sym (map-range_with_len_more text 0 j j (omega arith)))

@@ -1,1 +1,4 @@
+pub mod FrameText
+pub mod Internal
 pub mod PictureText
+pub mod Report

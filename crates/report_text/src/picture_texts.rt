@@ -22,7 +22,7 @@ pub fn picture_text(alloc: Global, words: &[u64], width: u32) -> Result<Vec<u8>,
 }
 
 /// Appends the words of a row, separated by one space.
-fn push_row(text: &mut Vec<u8>, row: &[u64]) -> Result<(), Memory>
+pub(crate) fn push_row(text: &mut Vec<u8>, row: &[u64]) -> Result<(), Memory>
     ensures { OnOk result (text.new.items ≡ text.old.items ++ row_text row.now) }
 {
     for (column, word) in row.iter().enumerate() {

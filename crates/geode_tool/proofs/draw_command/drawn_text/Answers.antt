@@ -27,4 +27,4 @@ returns-clause-picture g c =
 
 pub returns-in_err-tris-clause-refused : goal.returns-in_err-tris-clause-refused
 returns-in_err-tris-clause-refused g c =
-    obj_refused _ _ _ _ _ c.in_err-tris.field-0.0 c.from_residual.ensures c.in_err-tris.ensures.refused
+    obj_refused _ c.args.request.now _ _ _ _ c.in_err-tris.field-0.0 c.from_residual.ensures c.in_err-tris.ensures.refused c.in_err-tris.ensures.read_up_to

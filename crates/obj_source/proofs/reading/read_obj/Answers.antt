@@ -5,7 +5,7 @@ use Rattle.geom_core.specs.declared.triangles.Tri.{Tri}
 use Rattle.span_io.specs.Consumers.{FedToEnd, FedToFailure, FedToLimit, FedToStop}
 use Rattle.obj_source.specs.declared.faults.ObjFault.{ObjFault}
 use Rattle.geom_core.specs.Limits.{AreGridTriangles}
-use Rattle.obj_source.proofs.Gathered.{Takes, StopsAt, refused_at_end, refused_at_stop, refused_long, end-reads_up_to, failure-reads_up_to, stop-reads_up_to}
+use Rattle.obj_source.proofs.Gathered.{Takes, StopsAt, refused_at_end, refused_at_stop, refused_long, end-reads_up_to, failure-reads_up_to, limit-reads_up_to, stop-reads_up_to}
 use Rattle.obj_source.proofs.SoundMeshes.{mesh_sound}
 use Rattle.obj_source.proofs.reading.read_obj.Goals as goal
 
@@ -66,3 +66,11 @@ returns-in-Failed-clause-read_up_to g c =
     (g.S.Source.left c.read_into.new.src) (g.S.Source.faults c.args.src.now)
     (g.S.Source.faults c.read_into.new.src) c.read_into.new.consumer)
     c.of-scanner.ensures.scale c.in-Failed.ensures.outcome)
+
+pub returns-in-TooLong-clause-read_up_to : goal.returns-in-TooLong-clause-read_up_to
+returns-in-TooLong-clause-read_up_to g c =
+    limit-reads_up_to c.args.scale _ _ _ _ c.read_into.new.consumer
+    (subst (λ (s : ℕ). FedToLimit (Takes s) MAX_OBJ_BYTES (g.S.Source.left c.args.src.now)
+    (g.S.Source.left c.read_into.new.src) (g.S.Source.faults c.args.src.now)
+    (g.S.Source.faults c.read_into.new.src) c.read_into.new.consumer)
+    c.of-scanner.ensures.scale c.in-TooLong.ensures.outcome)

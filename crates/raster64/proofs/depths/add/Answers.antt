@@ -16,15 +16,19 @@ returns-then-is_at_least g c n m h i =
     let q = c.args.q in
     let whole : int c.plus.result ≡ int p.whole +ℤ int q.whole +ℤ pos 1 = cc in
     let rest : int c.minus.result ≡ int p.rest +ℤ int q.rest -ℤ int c.args.divisor = cc in
-    let large = at_least (int c.args.divisor) (int c.plus-rest.result) (sym c.is_at_least.ensures ∙ c.if-is_at_least.true) in
+    let large = at_least (int c.args.divisor) (int c.plus-rest.result) (sym c.is_at_least.ensures ∙
+    c.if-is_at_least.true) in
     rw (whole, rest)
-    (sum_carried n m (int c.args.divisor) (int p.whole) (int p.rest) (int q.whole) (int q.rest) h i (rw c.plus-rest.ensures at large))
+    (sum_carried n m (int c.args.divisor) (int p.whole) (int p.rest) (int q.whole) (int q.rest) h i
+    (rw c.plus-rest.ensures at large))
 
 pub returns-else-is_at_least : goal.returns-else-is_at_least
 returns-else-is_at_least g c n m h i =
     let int = g.W.Wide.int in
     let p = c.args.p in
     let q = c.args.q in
-    let small = below (int c.args.divisor) (int c.plus-rest.result) (sym c.is_at_least.ensures ∙ c.if-is_at_least.false) in
+    let small = below (int c.args.divisor) (int c.plus-rest.result) (sym c.is_at_least.ensures ∙
+    c.if-is_at_least.false) in
     rw (c.plus-whole.ensures, c.plus-rest.ensures)
-    (sum_divided n m (int c.args.divisor) (int p.whole) (int p.rest) (int q.whole) (int q.rest) h i (rw c.plus-rest.ensures at small))
+    (sum_divided n m (int c.args.divisor) (int p.whole) (int p.rest) (int q.whole) (int q.rest) h i
+    (rw c.plus-rest.ensures at small))

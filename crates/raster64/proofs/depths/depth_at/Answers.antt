@@ -17,7 +17,8 @@ divide-requires-clause-size g c =
     let x = to_z-of_z w64 c.args.x c.ranges.x in
     let y = to_z-of_z w64 c.args.y c.ranges.y in
     let e : g.W.Wide.int c.weighted.result ≡ weighted c.args.a c.args.b c.args.c c.args.x c.args.y = cc in
-    let size = weighted_size m c.args.a c.args.b c.args.c c.args.x c.args.y at.0 at.1 at.2 c.requires.point_x c.requires.point_y
+    let size = weighted_size m c.args.a c.args.b c.args.c c.args.x c.args.y at.0 at.1 at.2 c.requires.point_x
+    c.requires.point_y
     (depth_limit c.args.a.z z.0) (depth_limit c.args.b.z z.1) (depth_limit c.args.c.z z.2) in
     let area = area_size m c.args.a c.args.b c.args.c at.0 at.1 at.2 in
     rw (e, c.requires.plane.area) (omega (arith, size, area, law.products))

@@ -6,4 +6,5 @@ pub returns : goal.returns
 returns g c =
     let int = g.W.Wide.int in
     let rest : int c.minus.result ≡ int c.args.n -ℤ int c.quotient-whole.result *ℤ int c.args.divisor = cc in
-    divided (int c.args.n) (int c.args.divisor) (int c.quotient-whole.result) (int c.minus.result) c.requires.positive c.quotient-whole.ensures rest
+    divided (int c.args.n) (int c.args.divisor) (int c.quotient-whole.result)
+    (int c.minus.result) c.requires.positive c.quotient-whole.ensures rest

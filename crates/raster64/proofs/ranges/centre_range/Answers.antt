@@ -10,7 +10,14 @@ returns-clause-order c =
     let high : SFits w64 c.max-2.result = record { sfits = c.max-2.type_inv } in
     let end = c.centres_before-2.result in
     ordered c.centres_before.result end c.args.count c.min-2.result c.max-2.result c.centres_before.ensures.limit
-    (omega (arith, ints, c.min.ensures.self_bound, c.min-2.ensures.self_bound, c.max.ensures.self_bound, c.max-2.ensures.self_bound))
+    (omega (
+      arith,
+      ints,
+      c.min.ensures.self_bound,
+      c.min-2.ensures.self_bound,
+      c.max.ensures.self_bound,
+      c.max-2.ensures.self_bound,
+    ))
     (λ h. rw to_z-of_z at (c.centres_before.ensures.before end h))
     (λ h. rw to_z-of_z at (c.centres_before-2.ensures.after end (omega arith) h))
 

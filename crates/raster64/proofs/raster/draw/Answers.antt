@@ -41,8 +41,13 @@ returns-else-rows-clause-shown g c rest before h =
     λ empty. words_in-beside d columns.end (d.size.width * d.size.height) wide (λ k i. left k (omega arith)) right in
     let no_rows : rows.end ≤ rows.first → words_in d 0 (d.size.width * d.size.height) ≡ [] =
     λ empty. let same : rows.end ≡ rows.first = omega (arith, c.centre_range-rows.ensures.order) in
-    words_in-picture d rows.end wide c.centre_range-rows.ensures.limit below ∙ ap (λ end. words_in d 0 (end * d.size.width)) same ∙
+    words_in-picture d rows.end wide c.centre_range-rows.ensures.limit below ∙
+    ap (λ end. words_in d 0 (end * d.size.width)) same ∙
     words_in-above d rows.first wide above in
     let none : words_in d 0 (d.size.width * d.size.height) ≡ [] =
-    elim c.else-rows.branch [ else-rows-via-then-rows+else-columns w ↦ no_columns (omega arith) | else-rows-via-else-rows w ↦ no_rows (omega arith) ] in
+    elim c.else-rows.branch [
+      | else-rows-via-then-rows+else-columns w ↦
+          no_columns (omega arith)
+      | else-rows-via-else-rows w ↦ no_rows (omega arith)
+    ] in
     rw (none, append-nil before) h

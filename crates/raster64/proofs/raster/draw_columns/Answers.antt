@@ -1,4 +1,5 @@
-use Rattle.std.proofs.Common.{◌≡◌, ◌+◌, ◌*◌, [], ◌∷◌, ◌++◌, pos, to_z, of_z, w64, refl, sym, ap, ◌∙◌, append_assoc, arith}
+use Rattle.std.proofs.Common.{◌≡◌, ◌+◌, ◌*◌, [], ◌∷◌, ◌++◌, pos, to_z, of_z, w64, refl, sym, ap, ◌∙◌, append_assoc}
+use Rattle.std.proofs.Common.{arith}
 use Rattle.std.proofs.lemmas.Int.{to_z-of_z}
 use Rattle.std.proofs.lemmas.List.{append-nil}
 use mir.Val.{SFits}
@@ -17,7 +18,8 @@ use Rattle.raster64.proofs.raster.draw_columns.Goals as goal
 pub columns-init : goal.columns-init
 columns-init g c =
     let d = c.args.triangle in
-    let none = words_in-before d (c.args.row * d.size.width) c.args.columns.first c.args.columns.end d.size.width c.requires.columns in
+    let none = words_in-before d (c.args.row * d.size.width) c.args.columns.first c.args.columns.end d.size.width
+    c.requires.columns in
     (refl, λ rest before h. rw (none, append-nil before) h, c.requires.start)
 
 pub to_i64-requires : goal.to_i64-requires
@@ -26,7 +28,8 @@ to_i64-requires g c =
     let d = c.args.triangle in
     let plane = c.args.plane in
     let whole = column_depth d c.args.row c.columns.column c.args.columns.first c.args.columns.end (int plane.divisor)
-    (int plane.step.whole) (int plane.step.rest) (int c.columns.depth.whole) (int c.columns.depth.rest) c.requires.columns
+    (int plane.step.whole) (int plane.step.rest) (int c.columns.depth.whole)
+    (int c.columns.depth.rest) c.requires.columns
     (omega arith) (omega arith) c.requires.plane c.columns.invariant.2 in
     let limit = depth_size d c.args.row c.columns.column c.requires.drawable.spots in
     rw whole (omega arith)
@@ -37,11 +40,13 @@ overflow_cast-to_i64 g c =
     let d = c.args.triangle in
     let plane = c.args.plane in
     let whole = column_depth d c.args.row c.columns.column c.args.columns.first c.args.columns.end (int plane.divisor)
-    (int plane.step.whole) (int plane.step.rest) (int c.columns.depth.whole) (int c.columns.depth.rest) c.requires.columns
+    (int plane.step.whole) (int plane.step.rest) (int c.columns.depth.whole)
+    (int c.columns.depth.rest) c.requires.columns
     (omega arith) (omega arith) c.requires.plane c.columns.invariant.2 in
     let limit = depth_size d c.args.row c.columns.column c.requires.drawable.spots in
     let fits : SFits w64 c.to_i64.result = record { sfits = c.to_i64.type_inv } in
-    let number : to_z w64 (of_z w64 c.to_i64.result) ≡ pos (depth d.a d.b d.c (centre c.columns.column) (centre c.args.row)) =
+    let number : to_z w64 (of_z w64 c.to_i64.result)
+    ≡ pos (depth d.a d.b d.c (centre c.columns.column) (centre c.args.row)) =
     to_z-of_z w64 c.to_i64.result fits ∙ c.to_i64.ensures ∙ whole in
     rw number (tt, omega arith)
 
@@ -51,11 +56,13 @@ pack-word-requires-clause-depth_limit g c =
     let d = c.args.triangle in
     let plane = c.args.plane in
     let whole = column_depth d c.args.row c.columns.column c.args.columns.first c.args.columns.end (int plane.divisor)
-    (int plane.step.whole) (int plane.step.rest) (int c.columns.depth.whole) (int c.columns.depth.rest) c.requires.columns
+    (int plane.step.whole) (int plane.step.rest) (int c.columns.depth.whole)
+    (int c.columns.depth.rest) c.requires.columns
     (omega arith) (omega arith) c.requires.plane c.columns.invariant.2 in
     let limit = depth_size d c.args.row c.columns.column c.requires.drawable.spots in
     let fits : SFits w64 c.to_i64.result = record { sfits = c.to_i64.type_inv } in
-    let number : to_z w64 (of_z w64 c.to_i64.result) ≡ pos (depth d.a d.b d.c (centre c.columns.column) (centre c.args.row)) =
+    let number : to_z w64 (of_z w64 c.to_i64.result)
+    ≡ pos (depth d.a d.b d.c (centre c.columns.column) (centre c.args.row)) =
     to_z-of_z w64 c.to_i64.result fits ∙ c.to_i64.ensures ∙ whole in
     rw number limit
 
@@ -68,7 +75,8 @@ overflow_mul-row g c =
 pub overflow_add-row : goal.overflow_add-row
 overflow_add-row g c =
     let end = c.requires.columns.limit in
-    let limit = pixel_limit c.args.triangle.size c.args.row c.columns.column c.requires.drawable.picture c.requires.row (omega arith) in
+    let limit = pixel_limit c.args.triangle.size c.args.row c.columns.column c.requires.drawable.picture c.requires.row
+    (omega arith) in
     omega arith
 
 pub add-depth-requires-clause-wholes : goal.add-depth-requires-clause-wholes
@@ -83,12 +91,16 @@ add-depth-requires-clause-wholes g c =
     let sides = picture_sides d.size c.requires.drawable.picture in
     let end = c.requires.columns.limit in
     let size = weighted_size m d.a d.b d.c (centre (c.columns.column + 1)) (centre c.args.row) at.0 at.1 at.2
-    (centre_size m (c.columns.column + 1) law.centres (omega arith)) (centre_size m c.args.row law.centres (omega (arith, c.requires.row)))
-    (depth_limit d.a.z (spot_z d.a spots.0)) (depth_limit d.b.z (spot_z d.b spots.1)) (depth_limit d.c.z (spot_z d.c spots.2)) in
+    (centre_size m (c.columns.column + 1) law.centres (omega arith))
+    (centre_size m c.args.row law.centres (omega (arith, c.requires.row)))
+    (depth_limit d.a.z (spot_z d.a spots.0)) (depth_limit d.b.z (spot_z d.b spots.1))
+    (depth_limit d.c.z (spot_z d.c spots.2)) in
     let sum = rw (weighted_next d.a d.b d.c c.columns.column (centre c.args.row)) at size in
-    wholes_size (weighted d.a d.b d.c (centre c.columns.column) (centre c.args.row)) (growth d.a d.b d.c) (int plane.divisor)
+    wholes_size (weighted d.a d.b d.c (centre c.columns.column) (centre c.args.row)) (growth d.a d.b d.c)
+    (int plane.divisor)
     (int c.columns.depth.whole) (int c.columns.depth.rest) (int plane.step.whole) (int plane.step.rest) g.W.Wide.most
-    c.requires.plane.positive c.columns.invariant.2 c.requires.plane.step (weighted_fits m g.W.Wide.most _ law.centres law.products sum)
+    c.requires.plane.positive c.columns.invariant.2 c.requires.plane.step
+    (weighted_fits m g.W.Wide.most _ law.centres law.products sum)
 
 pub add-depth-requires-clause-rests : goal.add-depth-requires-clause-rests
 add-depth-requires-clause-rests g c =
@@ -104,10 +116,12 @@ columns-preserved g c =
     let d = c.args.triangle in
     let plane = c.args.plane in
     let whole = column_depth d c.args.row c.columns.column c.args.columns.first c.args.columns.end (int plane.divisor)
-    (int plane.step.whole) (int plane.step.rest) (int c.columns.depth.whole) (int c.columns.depth.rest) c.requires.columns
+    (int plane.step.whole) (int plane.step.rest) (int c.columns.depth.whole)
+    (int c.columns.depth.rest) c.requires.columns
     (omega arith) (omega arith) c.requires.plane c.columns.invariant.2 in
     let fits : SFits w64 c.to_i64.result = record { sfits = c.to_i64.type_inv } in
-    let number : to_z w64 (of_z w64 c.to_i64.result) ≡ pos (depth d.a d.b d.c (centre c.columns.column) (centre c.args.row)) =
+    let number : to_z w64 (of_z w64 c.to_i64.result)
+    ≡ pos (depth d.a d.b d.c (centre c.columns.column) (centre c.args.row)) =
     to_z-of_z w64 c.to_i64.result fits ∙ c.to_i64.ensures ∙ whole in
     let first = c.args.row * d.size.width in
     let column = c.columns.column in
@@ -123,7 +137,8 @@ columns-preserved g c =
           rw (words_in-append d first column 1, one, ← append_assoc)
           (c.put.ensures.shown rest (before ++ words_in d first column) (c.columns.invariant.1 rest before h)),
       rw (weighted_next d.a d.b d.c column (centre c.args.row))
-          (c.add-depth.ensures (weighted d.a d.b d.c (centre column) (centre c.args.row)) (growth d.a d.b d.c) c.columns.invariant.2 c.requires.plane.step),
+          (c.add-depth.ensures (weighted d.a d.b d.c (centre column) (centre c.args.row))
+          (growth d.a d.b d.c) c.columns.invariant.2 c.requires.plane.step),
     )
 
 pub returns-clause-shown : goal.returns-clause-shown
@@ -131,5 +146,6 @@ returns-clause-shown g c rest before h =
     let d = c.args.triangle in
     let order = c.requires.columns.order in
     let end : c.columns.column ≡ c.args.columns.end = omega arith in
-    let all = words_in-range d (c.args.row * d.size.width) c.args.columns.first c.args.columns.end d.size.width c.requires.columns in
+    let all = words_in-range d (c.args.row * d.size.width) c.args.columns.first c.args.columns.end d.size.width
+    c.requires.columns in
     rw (all, ← end) (c.columns.invariant.1 rest before h)

@@ -1,4 +1,5 @@
-use Rattle.std.proofs.Common.{◌≡◌, ◌≢◌, ◌≤◌, ◌*◌, true, false, ℤ, pos, ◌-ℤ◌, neg_ℤ, ◌<ℤ◌, ◌≤ℤ◌, int_lt, unsigned_abs, sym, ◌∙◌, arith}
+use Rattle.std.proofs.Common.{◌≡◌, ◌≢◌, ◌≤◌, ◌*◌, true, false, ℤ, pos, ◌-ℤ◌, neg_ℤ, ◌<ℤ◌, ◌≤ℤ◌, int_lt, unsigned_abs}
+use Rattle.std.proofs.Common.{sym, ◌∙◌, arith}
 use Rattle.std.proofs.lemmas.Int.{ints}
 use Rattle.std.proofs.lemmas.List.{append-nil}
 use Rattle.geom_core.specs.Winding.{edge_function}
@@ -27,7 +28,8 @@ minus-negated-requires g c =
     let d = c.args.triangle in
     let at = c.requires.reach in
     let area = area_size g.W.Wide.reach d.a d.b d.c at.0 at.1 at.2 in
-    let size : unsigned_abs (g.W.Wide.int c.args.divisor) ≤ g.W.Wide.most = rw c.requires.area (omega (arith, area, law.products)) in
+    let size : unsigned_abs (g.W.Wide.int c.args.divisor) ≤ g.W.Wide.most =
+    rw c.requires.area (omega (arith, area, law.products)) in
     rw c.from_u32.ensures (omega (arith, ints, size))
 
 pub draw_rows-requires-clause-area : goal.draw_rows-requires-clause-area
@@ -49,7 +51,8 @@ returns-then-is_positive-clause-shown g c rest before h =
     let e : int c.minus-negated.result ≡ neg_ℤ (int c.args.divisor) =
     c.minus-negated.ensures ∙ rw c.from_u32.ensures (negated (int c.args.divisor)) in
     let above = rw e at (positive (int c.minus-negated.result) (sym c.is_positive.ensures ∙ c.if-is_positive.true)) in
-    let same = words_in-exchanged d 0 (d.size.width * d.size.height) (rw c.requires.area at (nonzero (int c.args.divisor) above)) in
+    let same = words_in-exchanged d 0 (d.size.width * d.size.height)
+    (rw c.requires.area at (nonzero (int c.args.divisor) above)) in
     rw (← same) ((rw c.exchanged.ensures at c.draw_rows.ensures.shown) rest before h)
 
 pub returns-else-is_positive-clause-shown : goal.returns-else-is_positive-clause-shown
@@ -59,14 +62,21 @@ returns-else-is_positive-clause-shown g c rest before h =
     let wide = (picture_sides d.size c.requires.drawable.picture).0 in
     let e : int c.minus-negated.result ≡ neg_ℤ (int c.args.divisor) =
     c.minus-negated.ensures ∙ rw c.from_u32.ensures (negated (int c.args.divisor)) in
-    let zero = flat (int c.args.divisor) c.requires.not_positive (rw e at (sym c.is_positive.ensures ∙ c.if-is_positive.false)) in
+    let zero = flat (int c.args.divisor) c.requires.not_positive
+    (rw e at (sym c.is_positive.ensures ∙ c.if-is_positive.false)) in
     let none = words_in-flat d (d.size.width * d.size.height) wide (sym c.requires.area ∙ zero) in
     rw (none, append-nil before) h
 
 pub draw_rows-requires-clause-drawable : goal.draw_rows-requires-clause-drawable
 draw_rows-requires-clause-drawable g c =
     let can = c.requires.drawable in
-    rw c.exchanged.ensures (record { spots = (can.spots.0, can.spots.2, can.spots.1); cluster = can.cluster; tri = can.tri; picture = can.picture })
+    rw c.exchanged.ensures (record {
+      spots = (can.spots.0, can.spots.2, can.spots.1);
+      cluster = can.cluster;
+      tri =
+          can.tri;
+      picture = can.picture;
+    })
 
 pub draw_rows-requires-clause-reach : goal.draw_rows-requires-clause-reach
 draw_rows-requires-clause-reach g c =

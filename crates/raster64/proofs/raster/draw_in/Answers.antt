@@ -34,7 +34,9 @@ edge_function-divisor-requires-clause-point_y g c =
     rw (word g.W.Wide.reach c.args.triangle.c.y g.met.W.Wide.coordinates third.y) third.y
 
 pub draw_rows-requires-clause-positive : goal.draw_rows-requires-clause-positive
-draw_rows-requires-clause-positive g c = positive (g.W.Wide.int c.edge_function-divisor.result) (sym c.is_positive.ensures ∙ c.if-is_positive.true)
+draw_rows-requires-clause-positive g c = positive (g.W.Wide.int c.edge_function-divisor.result)
+    (sym c.is_positive.ensures ∙ c.if-is_positive.true)
 
 pub draw_exchanged-requires-clause-not_positive : goal.draw_exchanged-requires-clause-not_positive
-draw_exchanged-requires-clause-not_positive g c = not_positive (g.W.Wide.int c.edge_function-divisor.result) (sym c.is_positive.ensures ∙ c.if-is_positive.false)
+draw_exchanged-requires-clause-not_positive g c =
+    not_positive (g.W.Wide.int c.edge_function-divisor.result) (sym c.is_positive.ensures ∙ c.if-is_positive.false)

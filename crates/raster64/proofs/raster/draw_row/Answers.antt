@@ -16,7 +16,8 @@ depth_at-start-requires-clause-point_x g c =
     let sides = picture_sides c.args.triangle.size c.requires.drawable.picture in
     let end = c.covered_columns-columns.ensures.limit in
     let fits : SFits w64 c.centre_of.result = record { sfits = c.centre_of.type_inv } in
-    let x : to_z w64 (of_z w64 c.centre_of.result) ≡ centre c.covered_columns-columns.result.first = to_z-of_z w64 c.centre_of.result fits ∙ c.centre_of.ensures in
+    let x : to_z w64 (of_z w64 c.centre_of.result) ≡ centre c.covered_columns-columns.result.first =
+    to_z-of_z w64 c.centre_of.result fits ∙ c.centre_of.ensures in
     rw x (centre_size g.W.Wide.reach c.covered_columns-columns.result.first g.met.W.Wide.centres (omega arith))
 
 pub depth_at-start-requires-clause-point_y : goal.depth_at-start-requires-clause-point_y
@@ -24,15 +25,18 @@ depth_at-start-requires-clause-point_y g c =
     let sides = picture_sides c.args.triangle.size c.requires.drawable.picture in
     let row = c.requires.row in
     let fits : SFits w64 c.centre_of-y.result = record { sfits = c.centre_of-y.type_inv } in
-    let y : to_z w64 (of_z w64 c.centre_of-y.result) ≡ centre c.args.row = to_z-of_z w64 c.centre_of-y.result fits ∙ c.centre_of-y.ensures in
+    let y : to_z w64 (of_z w64 c.centre_of-y.result) ≡ centre c.args.row =
+    to_z-of_z w64 c.centre_of-y.result fits ∙ c.centre_of-y.ensures in
     rw y (centre_size g.W.Wide.reach c.args.row g.met.W.Wide.centres (omega arith))
 
 pub draw_columns-requires-clause-columns : goal.draw_columns-requires-clause-columns
 draw_columns-requires-clause-columns g c =
     let d = c.args.triangle in
     let fits : SFits w64 c.centre_of-y.result = record { sfits = c.centre_of-y.type_inv } in
-    let y : to_z w64 (of_z w64 c.centre_of-y.result) ≡ centre c.args.row = to_z-of_z w64 c.centre_of-y.result fits ∙ c.centre_of-y.ensures in
-    range_same (λ k. is_in_span d.a d.b d.c (centre k) (centre c.args.row)) (λ k. is_covered d (c.args.row * d.size.width + k))
+    let y : to_z w64 (of_z w64 c.centre_of-y.result) ≡ centre c.args.row =
+    to_z-of_z w64 c.centre_of-y.result fits ∙ c.centre_of-y.ensures in
+    range_same (λ k. is_in_span d.a d.b d.c (centre k) (centre c.args.row)) (λ k.
+    is_covered d (c.args.row * d.size.width + k))
     c.covered_columns-columns.result.first c.covered_columns-columns.result.end d.size.width
     (λ k h. is_covered-span d c.args.row k h) (rw y at c.covered_columns-columns.ensures)
 
@@ -40,8 +44,10 @@ pub draw_columns-requires-clause-start : goal.draw_columns-requires-clause-start
 draw_columns-requires-clause-start g c =
     let fits_x : SFits w64 c.centre_of.result = record { sfits = c.centre_of.type_inv } in
     let fits_y : SFits w64 c.centre_of-y.result = record { sfits = c.centre_of-y.type_inv } in
-    let x : to_z w64 (of_z w64 c.centre_of.result) ≡ centre c.covered_columns-columns.result.first = to_z-of_z w64 c.centre_of.result fits_x ∙ c.centre_of.ensures in
-    let y : to_z w64 (of_z w64 c.centre_of-y.result) ≡ centre c.args.row = to_z-of_z w64 c.centre_of-y.result fits_y ∙ c.centre_of-y.ensures in
+    let x : to_z w64 (of_z w64 c.centre_of.result) ≡ centre c.covered_columns-columns.result.first =
+    to_z-of_z w64 c.centre_of.result fits_x ∙ c.centre_of.ensures in
+    let y : to_z w64 (of_z w64 c.centre_of-y.result) ≡ centre c.args.row =
+    to_z-of_z w64 c.centre_of-y.result fits_y ∙ c.centre_of-y.ensures in
     rw (x, y) at c.depth_at-start.ensures
 
 pub depth_at-start-requires-clause-depths : goal.depth_at-start-requires-clause-depths
@@ -54,10 +60,13 @@ pub returns-else-columns-clause-shown : goal.returns-else-columns-clause-shown
 returns-else-columns-clause-shown g c rest before h =
     let d = c.args.triangle in
     let fits : SFits w64 c.centre_of-y.result = record { sfits = c.centre_of-y.type_inv } in
-    let y : to_z w64 (of_z w64 c.centre_of-y.result) ≡ centre c.args.row = to_z-of_z w64 c.centre_of-y.result fits ∙ c.centre_of-y.ensures in
-    let range = range_same (λ k. is_in_span d.a d.b d.c (centre k) (centre c.args.row)) (λ k. is_covered d (c.args.row * d.size.width + k))
+    let y : to_z w64 (of_z w64 c.centre_of-y.result) ≡ centre c.args.row =
+    to_z-of_z w64 c.centre_of-y.result fits ∙ c.centre_of-y.ensures in
+    let range = range_same (λ k. is_in_span d.a d.b d.c (centre k) (centre c.args.row)) (λ k.
+    is_covered d (c.args.row * d.size.width + k))
     c.covered_columns-columns.result.first c.covered_columns-columns.result.end d.size.width
     (λ k h. is_covered-span d c.args.row k h) (rw y at c.covered_columns-columns.ensures) in
-    let none = words_in-empty d (c.args.row * d.size.width) c.covered_columns-columns.result.first c.covered_columns-columns.result.end
+    let none = words_in-empty d (c.args.row * d.size.width) c.covered_columns-columns.result.first
+    c.covered_columns-columns.result.end
     d.size.width range (omega arith) in
     rw (none, append-nil before) h

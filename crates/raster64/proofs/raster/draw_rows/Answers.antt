@@ -19,13 +19,16 @@ rows-preserved g c =
     let width = c.args.triangle.size.width in
     let row = c.rows.row in
     let next : (row + 1) * width ≡ row * width + width = omega arith in
-    let more : words_in c.args.triangle 0 ((row + 1) * width) ≡ words_in c.args.triangle 0 (row * width) ++ words_in c.args.triangle (row * width) width =
+    let more : words_in c.args.triangle 0 ((row + 1) * width) ≡ words_in c.args.triangle 0 (row * width)
+    ++ words_in c.args.triangle (row * width) width =
     ap (words_in c.args.triangle 0) next ∙ words_in-append c.args.triangle 0 (row * width) width ∙
-    ap (λ first. words_in c.args.triangle 0 (row * width) ++ words_in c.args.triangle first width) (zero-add (row * width)) in (
+    ap (λ first. words_in c.args.triangle 0 (row * width) ++ words_in c.args.triangle first width)
+    (zero-add (row * width)) in (
       c.draw_row.ensures.same_size ∙ c.rows.invariant.0,
       λ rest before h.
           rw (more, ← append_assoc)
-          (c.draw_row.ensures.shown rest (before ++ words_in c.args.triangle 0 (row * width)) (c.rows.invariant.1 rest before h)),
+          (c.draw_row.ensures.shown rest (before ++ words_in c.args.triangle 0 (row * width))
+          (c.rows.invariant.1 rest before h)),
     )
 
 pub returns-clause-same_size : goal.returns-clause-same_size

@@ -10,4 +10,5 @@ returns g c =
     let high : SFits w64 c.crossing_column-2.result = record { sfits = c.crossing_column-2.type_inv } in
     let p = to_z-of_z w64 c.crossing_column.result low in
     let q = to_z-of_z w64 c.crossing_column-2.result high in
-    rw (← (rw y at c.crossing_column.ensures), ← (rw y at c.crossing_column-2.ensures)) (rw (p, q) at c.columns_between.ensures)
+    rw (← (rw y at c.crossing_column.ensures), ← (rw y at c.crossing_column-2.ensures))
+    (rw (p, q) at c.columns_between.ensures)

@@ -28,7 +28,8 @@ to_i64-requires g c =
     let width = difference m c.args.lo.x c.args.hi.x law.coordinates lo.x hi.x in
     let height = difference m c.args.y c.args.lo.y law.coordinates y lo.y in
     let rise = difference m c.args.hi.y c.args.lo.y law.coordinates hi.y lo.y in
-    let e : g.W.Wide.int c.quotient.result ≡ floor_div ((c.args.lo.x -ℤ c.args.hi.x) *ℤ (c.args.y -ℤ c.args.lo.y)) (c.args.hi.y -ℤ c.args.lo.y) = cc in
+    let e : g.W.Wide.int c.quotient.result ≡ floor_div ((c.args.lo.x -ℤ c.args.hi.x) *ℤ (c.args.y -ℤ c.args.lo.y))
+    (c.args.hi.y -ℤ c.args.lo.y) = cc in
     rw e (offset_size m c.args.lo c.args.hi c.args.y law.coordinates lo hi c.requires.from c.requires.before)
 
 pub overflow_sub-result : goal.overflow_sub-result
@@ -41,8 +42,10 @@ overflow_sub-result g c =
     let width = difference m c.args.lo.x c.args.hi.x law.coordinates lo.x hi.x in
     let height = difference m c.args.y c.args.lo.y law.coordinates y lo.y in
     let rise = difference m c.args.hi.y c.args.lo.y law.coordinates hi.y lo.y in
-    let e : c.to_i64.result ≡ floor_div ((c.args.lo.x -ℤ c.args.hi.x) *ℤ (c.args.y -ℤ c.args.lo.y)) (c.args.hi.y -ℤ c.args.lo.y) = cc in
-    let size : unsigned_abs c.to_i64.result ≤ 2 ^ 43 = rw e (offset_size m c.args.lo c.args.hi c.args.y law.coordinates lo hi c.requires.from c.requires.before) in
+    let e : c.to_i64.result ≡ floor_div ((c.args.lo.x -ℤ c.args.hi.x) *ℤ (c.args.y -ℤ c.args.lo.y))
+    (c.args.hi.y -ℤ c.args.lo.y) = cc in
+    let size : unsigned_abs c.to_i64.result ≤ 2 ^ 43 =
+    rw e (offset_size m c.args.lo c.args.hi c.args.y law.coordinates lo hi c.requires.from c.requires.before) in
     let start : unsigned_abs c.args.lo.x ≤ 2 ^ 43 = omega (arith, lo.x, law.coordinates) in
     let f = held_by w64 c.args.lo.x (2 ^ 43) start (lit< tt) in
     let h = held_by w64 c.to_i64.result (2 ^ 43) size (lit< tt) in
@@ -59,7 +62,9 @@ returns g c =
     let width = difference m c.args.lo.x c.args.hi.x law.coordinates lo.x hi.x in
     let height = difference m c.args.y c.args.lo.y law.coordinates y lo.y in
     let rise = difference m c.args.hi.y c.args.lo.y law.coordinates hi.y lo.y in
-    let e : c.to_i64.result ≡ floor_div ((c.args.lo.x -ℤ c.args.hi.x) *ℤ (c.args.y -ℤ c.args.lo.y)) (c.args.hi.y -ℤ c.args.lo.y) = cc in
-    let size : unsigned_abs c.to_i64.result ≤ 2 ^ 43 = rw e (offset_size m c.args.lo c.args.hi c.args.y law.coordinates lo hi c.requires.from c.requires.before) in
+    let e : c.to_i64.result ≡ floor_div ((c.args.lo.x -ℤ c.args.hi.x) *ℤ (c.args.y -ℤ c.args.lo.y))
+    (c.args.hi.y -ℤ c.args.lo.y) = cc in
+    let size : unsigned_abs c.to_i64.result ≤ 2 ^ 43 =
+    rw e (offset_size m c.args.lo c.args.hi c.args.y law.coordinates lo hi c.requires.from c.requires.before) in
     let start : unsigned_abs c.args.lo.x ≤ 2 ^ 43 = omega (arith, lo.x, law.coordinates) in
     computed_sub w64 c.args.lo.x c.to_i64.result (2 ^ 43) start size (lit< tt) ∙ ap (λ z. c.args.lo.x -ℤ z) e

@@ -18,7 +18,8 @@ loop-column-preserved c =
     elim c.if-column-gt0.branch [
       | then-column-gt0+in_ok-push w ↦
           word_put_later before c.loop-column.text.items mid after c.args.row.now c.loop-column.column
-          w.if-column-gt0.true within c.loop-column.invariant (cc (w.text-is, w.in_ok-push.ensures.items)) c.in_ok-push_word.ensures
+          w.if-column-gt0.true within c.loop-column.invariant (cc
+          (w.text-is, w.in_ok-push.ensures.items)) c.in_ok-push_word.ensures
       | else-column-gt0 w ↦
           word_put_first before c.loop-column.text.items mid after c.args.row.now c.loop-column.column
           w.if-column-gt0.false within c.loop-column.invariant (cc (w.text-is)) c.in_ok-push_word.ensures

@@ -10,7 +10,8 @@ returns-clause-shown c = λ size before shown.
     let pixel : ℕ = c.args.pixel in
     let within : pixel < length words = subst (λ (n : ℕ). pixel < n) (sym buffer.whole) c.requires in
     let most : c.max.result ≡ max (get_or words pixel 0) c.args.word =
-    c.max.ensures ∙ ap (λ (n : ℕ). max n c.args.word) (get_or_read words pixel c.index.result.now within c.index.ensures 0) in (
+    c.max.ensures ∙ ap (λ (n : ℕ). max n c.args.word)
+    (get_or_read words pixel c.index.result.now within c.index.ensures 0) in (
       shown.0,
       ap (set words pixel) most
           ∙ picture_of_words-push size words before pixel c.args.word shown.1 (rw shown.0 at c.requires),

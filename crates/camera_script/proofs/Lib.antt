@@ -1,0 +1,4 @@
+mod Examples
+pub mod MemberCounts
+pub mod ReadTexts
+pub mod SoundScripts

@@ -1,0 +1,4 @@
+pub mod Internal
+pub mod IsScript
+pub mod Members
+pub mod Script

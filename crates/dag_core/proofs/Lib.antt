@@ -1,0 +1,14 @@
+pub mod TwoSquares
+pub mod Examples
+pub mod RangeLaws
+pub mod MemberLaws
+pub mod PlaceLaws
+pub mod RuleLaws
+pub mod ListSteps
+pub mod TableLaws
+pub mod UpperLaws
+pub mod HalvingLaws
+pub mod CheckLaws
+pub mod RangeTestLaws
+pub mod TwoSquaresLaws
+pub mod SumLaws

@@ -1,0 +1,56 @@
+ghost use Rattle.std.specs.Prelude.{◌≡◌, ◌⊎◌, None, Err, map, drop, string_bytes, IfOk, IfSome};
+ghost use Rattle.geode_tool.specs.Headline.{Holds};
+ghost use Rattle.geode_tool.specs.Inputs.{streams};
+ghost use Rattle.geode_tool.specs.Statuses.{exit_status_of};
+ghost use Rattle.geode_tool.specs.Words.{command_words};
+
+use crate::faults::{Done, Fault, UsageKind};
+use crate::tool::geode;
+use geom_core::Memory;
+use span_io::{Sink, Source};
+use std::alloc::Global;
+
+/// Calls [`geode`] with a program's arguments, the first of which is the program's name and no word.
+///
+/// `Memory` is also returned if there is none for the list of words; then nothing is read or written.
+pub fn call<S: Source, K: Sink>(
+    alloc: Global,
+    args: &[String],
+    input: &mut S,
+    out: &mut K,
+) -> Result<Done, Fault>
+    ensures usage { command_words (drop 1 (map string_bytes args.now)) ≡ None
+        → (result ≡ Err (Fault.Usage UsageKind.Line)) ⊎ (result ≡ Err Fault.Memory) }
+    ensures unchanged { command_words (drop 1 (map string_bytes args.now)) ≡ None
+        → (input.new ≡ input.old) × (out.new ≡ out.old) }
+    ensures promise { IfSome (command_words (drop 1 (map string_bytes args.now))) (λ command.
+        Holds command
+        (streams (S.left input.old) (S.faults input.old)
+        (K.written out.old) (K.flushed out.old) (K.faults out.old) out.old)
+        (streams (S.left input.new) (S.faults input.new)
+        (K.written out.new) (K.flushed out.new) (K.faults out.new) out.new) result) }
+{
+    let words = slices_of(alloc, args.get(1..).unwrap_or_default())?;
+    geode(alloc, &words, input, out)
+}
+
+/// Returns the texts of words.
+fn slices_of(alloc: Global, words: &[String]) -> Result<Vec<&str>, Memory>
+    ensures { IfOk result (λ slices. map (λ w. w.now) slices.items ≡ map string_bytes words.now) }
+{
+    let mut slices = Vec::new(alloc);
+    'words: for word in words {
+        slices.push(word.as_str())?;
+    }
+    Ok(slices)
+}
+
+/// Returns the exit status of a program that ends with this answer: 0 for a success, else the fault's.
+pub fn exit_status(answer: &Result<Done, Fault>) -> u8
+    ensures { result ≡ exit_status_of answer.now }
+{
+    match answer {
+        Ok(_) => 0,
+        Err(fault) => fault.status(),
+    }
+}

@@ -1,0 +1,22 @@
+pub mod NumberLists
+pub mod ClusterLists
+pub mod ClusterBytes
+mod Examples
+pub mod DirectoryLaws
+pub mod DirectorySpelt
+pub mod FileLaws
+pub mod FitsLaws
+pub mod Homes
+pub mod LinkTables
+pub mod Links
+pub mod NumberLaws
+pub mod PageBytes
+pub mod PageLaws
+pub mod PageRules
+pub mod PageSpelt
+pub mod RecordLaws
+pub mod RecordLists
+pub mod Seams
+pub mod SpeltLaws
+pub mod Sums
+pub mod TriangleLaws

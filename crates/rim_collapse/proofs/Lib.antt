@@ -1,0 +1,9 @@
+pub mod BestLaws
+pub mod Determined
+pub mod Examples
+pub mod FacetLaws
+pub mod Following
+pub mod Listed
+pub mod ListedRows
+pub mod Products
+pub mod StepLaws

@@ -1,0 +1,9 @@
+pub mod Cost
+pub mod Internal
+pub mod Least
+pub mod Legal
+pub mod Moved
+pub mod Normals
+pub mod Simplified
+pub mod Sound
+pub mod States
