@@ -262,7 +262,7 @@ impl PageTable {
     }
 
     /// Records that one frame less pins the page explicitly.
-    fn unpin(&mut self, page: u32)
+    pub fn unpin(&mut self, page: u32)
         requires page_range { page < length self.old.records }
         requires pinned { 0 < (record_at self.old.records page).pins }
         ensures { self.new ≡ with_record self.old page

@@ -15,7 +15,7 @@ pub fn pin_each(table: &mut PageTable, pages: &[u32])
     ensures { MovesPins (λ p. 0) (times pages.now) table.old table.new }
 {
     for page in pages {
-        table.pin(*page);
+        table.pin(*page, 1);
     }
 }
 
