@@ -1,0 +1,3 @@
+pub mod LoaderChoices
+pub mod Openings
+pub mod TableQueries

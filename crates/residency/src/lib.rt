@@ -12,10 +12,16 @@
 #![tactic(auto)]
 
 mod events;
+mod faults;
+mod nexts;
+mod pools;
+mod rules;
 mod tables;
 
+pub use faults::{ReplayFault, StepFault};
 pub use journal::{
     Entries, Entry, Journal, JournalFault, Layout, Spoilt, Uppers, What,
     printed_journal_reads_back, read_journal,
 };
 pub use pool_rules::{Next, laws};
+pub use pools::Pool;

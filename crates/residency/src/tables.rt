@@ -1,9 +1,10 @@
 ghost use Rattle.std.specs.Prelude.{◌≡◌, [], IfOk};
 ghost use Rattle.journal.specs.Layout.{InBounds};
+ghost use Rattle.residency.specs.Internal.Tables.{number_of};
 
 use crate::Layout;
 use geom_core::Memory;
-use pool_tables::{FrameTable, MakerTable, PageTable, WantList};
+use pool_tables::{FrameId, FrameTable, MakerTable, PageTable, WantList};
 use std::alloc::Global;
 
 /// What is kept of a journal.
@@ -19,6 +20,16 @@ pub struct Tables {
     pub makers: MakerTable,
     /// Whether the journal has a Stop.
     pub stopped: bool,
+}
+
+/// Returns the frame's number, if there is one, as an id.
+pub fn frame_id(frame: Option<u32>) -> Option<FrameId>
+    ensures { number_of result ≡ frame }
+{
+    match frame {
+        Some(frame) => Some(FrameId(frame)),
+        None => None,
+    }
 }
 
 impl Tables {
