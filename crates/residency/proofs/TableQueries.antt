@@ -1,11 +1,12 @@
 -- What the tables tell is what the rules say of the state.
-use Rattle.std.proofs.Common.{◌≡◌, ◌==◌, ◌<◌, ℕ, zero, suc, List, [], ◌∷◌, Bool, true, false, not, ◌&&◌, ◌||◌, nat_lt, Option, None, Some, is_some, get_or, length, count_by, refl, sym, ap, ◌∙◌, arith}
+use Rattle.std.proofs.Common.{◌≡◌, ◌==◌, ◌<◌, ℕ, zero, suc, List, [], ◌∷◌, Bool, true, false, not, ◌&&◌, ◌||◌, nat_lt, Option, None, Some, is_some, get_or, length, count_by, find, refl, sym, ap, ◌∙◌, arith}
 use Rattle.std.specs.List.{list_all, list_any}
 use Rattle.std.proofs.lemmas.Bool.Decides.{nat_tests}
 use Rattle.journal.specs.Layout.{InBounds, ascends, uppers_of}
 use Rattle.journal.specs.declared.entries.Entry.{Entry}
 use Rattle.journal.specs.declared.entries.What.TheVariants.{Narrow}
 use Rattle.journal.specs.declared.layouts.Layout.{Layout}
+use Rattle.pool_rules.specs.Next.{first_loading, first_takeable}
 use Rattle.pool_rules.specs.Numbers.{holds}
 use Rattle.pool_rules.specs.Rules.{all_resident, allows, any_resident, has_entry, loads, owns, pins}
 use Rattle.pool_rules.specs.State.{State, held_count, is_resident, state_of}
@@ -22,7 +23,8 @@ use Rattle.pool_tables.proofs.PageRanges.{held-count}
 use Rattle.pool_tables.proofs.PinCounts.{is_pinned-counted, owns-item, pins-item}
 use Rattle.pool_tables.proofs.PoolPages.{loader-at, loading-at, resident-at}
 use Rattle.pool_tables.proofs.Victims.{victim_for-first_evictable}
-use Rattle.pool_tables.proofs.WantSearches.{SayHeld}
+use Rattle.pool_tables.specs.WantQueue.{counts_in, is_loading_in, is_takeable_in, standing}
+use Rattle.pool_tables.proofs.WantSearches.{SayHeld, first_loading-state, first_takeable-state}
 use Rattle.residency.specs.Internal.Tables.{AreLegalTables, AreTables, installed_at, pins_by_records}
 use Rattle.residency.specs.declared.tables.Tables.{Tables}
 
@@ -152,3 +154,33 @@ victim-told layout journal tables page latest found past is_latest first =
     sym (victim_for-first_evictable layout (state_of layout journal) tables.pages page latest found past.in_bounds
     (HasItemAPage-state_of layout journal) past.tables.pages.pages
     (ArePinsOf-told layout journal tables latest past.tables is_latest) first)
+
+-- ---- wants
+
+pub first_takeable-told : (layout : Layout) (journal : List Entry) (tables : Tables) (frame : Option ℕ) →
+    AreLegalTables layout journal tables →
+    find (is_takeable_in layout tables.pages.records frame)
+    (standing (counts_in tables.pages.records tables.frames) tables.wants.wants)
+    ≡ first_takeable layout (state_of layout journal) frame
+first_takeable-told layout journal tables frame past =
+    first_takeable-state layout tables.pages.records (state_of layout journal) frame
+    (standing (counts_in tables.pages.records tables.frames) tables.wants.wants)
+    (SayHeld-told layout journal tables past.tables) past.tables.wants.wants.standing
+
+pub first_loading-told : (layout : Layout) (journal : List Entry) (tables : Tables) (frame : ℕ) →
+    AreLegalTables layout journal tables →
+    find (is_loading_in tables.pages.records frame)
+    (standing (counts_in tables.pages.records tables.frames) tables.wants.wants)
+    ≡ first_loading (state_of layout journal) frame
+first_loading-told layout journal tables frame past =
+    first_loading-state tables.pages.records (state_of layout journal) frame
+    (standing (counts_in tables.pages.records tables.frames) tables.wants.wants)
+    (SayHeld-told layout journal tables past.tables) past.tables.wants.wants.standing
+
+pub narrow-none : (layout : Layout) (journal : List Entry) (tables : Tables) (by frame : ℕ) (pages : List ℕ) →
+    AreTables layout journal tables → item_of tables.frames frame ≡ None →
+    false ≡ allows layout (state_of layout journal) journal by (Narrow frame pages)
+narrow-none layout journal tables by frame pages are at =
+    let none : owns (state_of layout journal) by frame ≡ false =
+    sym (owns-told layout journal tables by frame are) ∙ ap (is_owned by) at in
+    rw none refl

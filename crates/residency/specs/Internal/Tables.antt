@@ -69,10 +69,10 @@ pub record AreTables (layout : Layout) (journal : List Entry) (tables : Tables) 
   pub stopped : tables.stopped ≡ (state_of layout journal).stopped
 
 -- the tables of a legal journal within a layout's bounds
-pub record AreLegalTables (layout : Layout) (journal : List Entry) (tables : Tables) : Type 0 where
+pub record AreLegalTables (layout : Layout) (journal : List Entry) (all : Tables) : Type 0 where
   pub in_bounds : InBounds layout
   pub legal : IsLegal layout journal
-  pub tables : AreTables layout journal tables
+  pub tables : AreTables layout journal all
 
 -- the entry is allowed next
 pub record IsNext (layout : Layout) (journal : List Entry) (tables : Tables) (entry : Entry) : Type 0 where
