@@ -1,3 +1,5 @@
+pub mod Examples
 pub mod LoaderChoices
 pub mod Openings
+pub mod RefusedPlaces
 pub mod TableQueries

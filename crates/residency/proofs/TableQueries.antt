@@ -4,9 +4,9 @@ use Rattle.std.specs.List.{list_all, list_any}
 use Rattle.std.proofs.lemmas.Bool.Decides.{nat_tests}
 use Rattle.journal.specs.Layout.{InBounds, ascends, uppers_of}
 use Rattle.journal.specs.declared.entries.Entry.{Entry}
-use Rattle.journal.specs.declared.entries.What.TheVariants.{Narrow}
+use Rattle.journal.specs.declared.entries.What.TheVariants.{Narrow, Take}
 use Rattle.journal.specs.declared.layouts.Layout.{Layout}
-use Rattle.pool_rules.specs.Next.{first_loading, first_takeable}
+use Rattle.pool_rules.specs.Next.{first_loading, first_takeable, is_take, next_in}
 use Rattle.pool_rules.specs.Numbers.{holds}
 use Rattle.pool_rules.specs.Rules.{all_resident, allows, any_resident, has_entry, loads, owns, pins}
 use Rattle.pool_rules.specs.State.{State, held_count, is_resident, state_of}
@@ -132,7 +132,10 @@ uppers-ascend layout page bounds = uppers-ascend_from layout.uppers page (λ p b
 
 some-count : (n : ℕ) → nat_lt 0 n ≡ not (n == 0)
 some-count zero = refl
-some-count (suc n) = refl
+some-count (suc n) =
+    let some : nat_lt 0 (suc n) ≡ true = grind (arith, nat_tests) in
+    let other : (suc n == 0) ≡ false = grind (arith, nat_tests) in
+    rw (some, other) refl
 
 ArePinsOf-told : (layout : Layout) (journal : List Entry) (tables : Tables) (latest : Option ℕ) →
     AreTables layout journal tables → IsLatest tables.frames.items latest →
@@ -184,3 +187,31 @@ narrow-none layout journal tables by frame pages are at =
     let none : owns (state_of layout journal) by frame ≡ false =
     sym (owns-told layout journal tables by frame are) ∙ ap (is_owned by) at in
     rw none refl
+
+-- ---- takes
+
+pub take-refused : (layout : Layout) (s : State) (journal : List Entry) (by : ℕ) (frame : Option ℕ) (page : ℕ)
+    (victim : Option ℕ) → (not s.stopped && is_take (next_in layout s frame) page victim) ≡ false →
+    false ≡ allows layout s journal by (Take frame page victim)
+take-refused layout s journal by None page victim h = sym h
+take-refused layout s journal by (Some frame) page victim h =
+    refused (not s.stopped) (is_take (next_in layout s (Some frame)) page victim) (owns s by frame) h
+  where
+    refused : (a b c : Bool) → (a && b) ≡ false → false ≡ (a && (b && c))
+    refused true b c h = rw h refl
+    refused false b c h = refl
+
+pub take-owned : (layout : Layout) (s : State) (journal : List Entry) (by frame page : ℕ) (victim : Option ℕ) →
+    (not s.stopped && is_take (next_in layout s (Some frame)) page victim) ≡ true →
+    owns s by frame ≡ allows layout s journal by (Take (Some frame) page victim)
+take-owned layout s journal by frame page victim h =
+    granted (not s.stopped) (is_take (next_in layout s (Some frame)) page victim) (owns s by frame) h
+  where
+    granted : (a b c : Bool) → (a && b) ≡ true → c ≡ (a && (b && c))
+    granted true b c h = rw h refl
+    granted false b c h = cc
+
+pub take-for_all : (layout : Layout) (s : State) (journal : List Entry) (by page : ℕ) (victim : Option ℕ) →
+    (not s.stopped && is_take (next_in layout s None) page victim) ≡ true →
+    true ≡ allows layout s journal by (Take None page victim)
+take-for_all layout s journal by page victim h = sym h

@@ -1,12 +1,12 @@
 //! Which entry is allowed next.
 
-ghost use Rattle.std.specs.Prelude.{◌≡◌, ◌||◌, ◌&&◌, List, Some};
+ghost use Rattle.std.specs.Prelude.{◌≡◌, ◌&&◌, List, Some, not};
 ghost use Rattle.std.specs.List.{list_all, list_any};
 ghost use Rattle.journal.specs.declared.entries.Entry.{Entry};
 ghost use Rattle.journal.specs.declared.entries.What.TheVariants.{Ask, Full, Narrow, Pin, Settle, Take};
 ghost use Rattle.journal.specs.declared.layouts.Layout.{Layout};
 ghost use Rattle.journal.specs.Layout.{InBounds, ascends};
-ghost use Rattle.pool_rules.specs.Next.{is_full, is_take};
+ghost use Rattle.pool_rules.specs.Next.{is_full, is_take, next_after};
 ghost use Rattle.pool_rules.specs.Numbers.{holds};
 ghost use Rattle.pool_rules.specs.Rules.{allows, is_allowed, is_page_list, is_wrong, rose};
 ghost use Rattle.pool_rules.specs.State.{state_of};
@@ -122,6 +122,13 @@ fn is_pinned_by(pages: &PageTable, item: &FrameItem, page: u32) -> bool
         || page_record.resident && is_in_snapshot(item.snapshot, page_record.installed_at)
 }
 
+/// Whether the frame of the item pins each of these pages.
+fn all_pinned(pages: &PageTable, item: &FrameItem, numbers: &[u32]) -> bool
+    ensures { result ≡ list_all (λ p. pins_by_records pages.now.records item.now p) numbers.now }
+{
+    numbers.iter().all(|page| is_pinned_by(pages, item, *page))
+}
+
 /// Whether a Pin is allowed.
 fn allows_pin(tables: &Tables, by: MakerId, frame: FrameId) -> bool
     ensures { (layout : Layout) (journal : List Entry) → AreTables layout journal tables.now →
@@ -170,7 +177,7 @@ fn can_narrow(pages: &PageTable, item: &FrameItem, by: MakerId, kept: &[u32]) ->
     ensures { result ≡ (is_owned by.0 (Some item.now) && (ascends kept.now
         && list_all (pins_by_records pages.now.records item.now) kept.now)) }
 {
-    is_owned(item, by) && ascends(kept) && kept.iter().all(|page| is_pinned_by(pages, item, *page))
+    is_owned(item, by) && ascends(kept) && all_pinned(pages, item, kept)
 }
 
 /// Whether a Narrow is allowed.
@@ -182,6 +189,22 @@ fn allows_narrow(tables: &Tables, by: MakerId, frame: FrameId, pages: &[u32]) ->
         Some(item) => can_narrow(&tables.pages, item, by, pages),
         None => false,
     }
+}
+
+/// Whether the pool is not stopped, and a loader may next take this page for this victim.
+fn is_next_take(
+    tables: &Tables,
+    layout: &Layout,
+    frame: Option<FrameId>,
+    page: u32,
+    victim: Option<u32>,
+) -> bool
+    requires layout_bounds { InBounds layout.now }
+    ensures { (journal : List Entry) → AreLegalTables layout.now journal tables.now →
+        result ≡ (not (state_of layout.now journal).stopped
+        && is_take (next_after layout.now journal (number_of frame)) page victim) }
+{
+    !tables.stopped && is_take(next_in(tables, layout, frame), page, victim)
 }
 
 /// Whether a Take is allowed.
@@ -198,7 +221,7 @@ fn allows_take(
         result ≡ allows layout.now (state_of layout.now journal) journal by.0
         (Take (number_of frame) page victim) }
 {
-    if tables.stopped || !is_take(next_in(tables, layout, frame), page, victim) {
+    if !is_next_take(tables, layout, frame, page, victim) {
         return false;
     }
     match frame {

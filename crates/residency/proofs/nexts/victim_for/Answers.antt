@@ -3,7 +3,7 @@ use Rattle.residency.proofs.nexts.victim_for.Goals as goal
 
 pub first_evictable-requires : goal.first_evictable-requires
 first_evictable-requires c =
-    rw c.uppers_of.ensures (uppers-ascend c.args.layout.now c.args.page c.requires.layout_bounds)
+    record { ascending = rw c.uppers_of.ensures (uppers-ascend c.args.layout.now c.args.page c.requires.layout_bounds) }
 
 pub returns : goal.returns
 returns c = λ journal past.
