@@ -1,3 +1,11 @@
+pub mod AskTables
+pub mod FrameRecords
 pub mod LoaderChoices
+pub mod LostTables
 pub mod Openings
+pub mod RepinTables
+pub mod StillTables
 pub mod TableQueries
+pub mod TablesAt
+pub mod TakeTables
+pub mod UnpinTables
