@@ -1,5 +1,13 @@
 pub mod Examples
+pub mod AskTables
+pub mod FrameRecords
 pub mod LoaderChoices
+pub mod LostTables
 pub mod Openings
 pub mod RefusedPlaces
+pub mod RepinTables
+pub mod StillTables
 pub mod TableQueries
+pub mod TablesAt
+pub mod TakeTables
+pub mod UnpinTables

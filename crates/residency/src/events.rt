@@ -1,38 +1,107 @@
 //! What each kind of entry changes in the tables: one function per kind.
 
-ghost use Rattle.std.specs.Prelude.{◌≡◌, ◌∷◌, ◌++◌, [], OnErr, OnOk, true};
+ghost use Rattle.std.specs.Prelude.{◌≡◌, ◌∷◌, ◌++◌, ◌+◌, ◌*◌, ◌^◌, ◌<◌, ◌≤◌, [], ℕ, OnErr, OnOk, None, Some, is_some, length, true, false};
+ghost use Rattle.journal.specs.Layout.{uppers_of};
 ghost use Rattle.journal.specs.declared.entries.What.TheVariants.{Ask, Fail, Full, Install, Narrow, Pin, Settle, Spoil, Starve, Stop, Take, Unpin};
+ghost use Rattle.pool_rules.specs.Numbers.{is_among};
+ghost use Rattle.pool_tables.specs.Changes.{HaveFewerDependents, HaveMoreDependents, times};
+ghost use Rattle.pool_tables.specs.FrameItems.{item_of, pins_in};
+ghost use Rattle.pool_tables.specs.PageRecords.{record_at, with_record};
+ghost use Rattle.pool_tables.specs.PinMoves.{MovesPins};
 ghost use Rattle.residency.specs.History.{needs_no_memory};
 ghost use Rattle.residency.specs.Internal.Tables.{AreTables, IsNext};
 
 use crate::tables::Tables;
 use crate::{Entry, Layout, Spoilt, What};
 use geom_core::{Digest32, Memory};
-use pool_tables::{ExplicitPins, FrameId, MakerId, QueuedWant, pin_each, unpin_item};
+use pool_tables::{
+    ExplicitPins, FrameId, FrameTable, MakerId, PageTable, QueuedWant, pin_each, unpin_item,
+};
 use std::alloc::Global;
 
 /// Returns the count of entries with the next one.
-fn next_count(journal: &[Entry]) -> u64 {
+fn next_count(journal: &[Entry]) -> u64
+    ensures { result ≡ length journal.now + 1 }
+{
     journal.len() as u64 + 1
 }
 
 /// Removes what the frame pins explicitly from the counts of pins by page.
-fn unpin_frame(tables: &mut Tables, frame: FrameId) {
-    if let Some(item) = tables.frames.get(frame) {
-        unpin_item(&mut tables.pages, &item.pins);
+fn unpin_frame(pages: &mut PageTable, frames: &FrameTable, frame: FrameId)
+    requires counted { (p : ℕ) → pins_in (item_of frames.now frame.0) p
+        ≤ (record_at pages.old.records p).pins }
+    ensures { MovesPins (pins_in (item_of frames.now frame.0)) (λ p. 0) pages.old pages.new }
+{
+    if let Some(item) = frames.get(frame) {
+        unpin_item(pages, &item.pins);
     }
 }
 
+/// Records that one frame more pins each of these pages explicitly.
+fn pin_pages(pages: &mut PageTable, frames: &FrameTable, pinned: &[u32])
+    requires page_range { (p : ℕ) → is_among pinned.now p ≡ true →
+        p < length pages.old.records }
+    requires once { (p : ℕ) → times pinned.now p ≤ 1 }
+    requires counted { (p : ℕ) → (record_at pages.old.records p).pins ≤ 2 * length frames.now.items }
+    ensures { MovesPins (λ p. 0) (times pinned.now) pages.old pages.new }
+{
+    // There are fewer than 2^63 frames, and each pins a page at most twice: the counts have room for one more.
+    let _frames = frames.len();
+    pin_each(pages, pinned);
+}
+
 /// Records that the page is no longer resident.
-fn evict(tables: &mut Tables, layout: &Layout, victim: u32) {
-    tables.pages.evict(victim);
-    tables.pages.remove_dependents(layout.uppers_of(victim));
+fn evict(pages: &mut PageTable, layout: &Layout, victim: u32)
+    requires resident { (record_at pages.old.records victim).resident ≡ true }
+    requires idle { (record_at pages.old.records victim).loader ≡ None }
+    requires no_root { pages.old.roots ≤ victim }
+    requires upper_range { (p : ℕ) → is_among (uppers_of layout.now victim) p ≡ true →
+        p < length pages.old.records }
+    requires counted { (p : ℕ) →
+        times (uppers_of layout.now victim) p ≤ (record_at pages.old.records p).dependents }
+    ensures { HaveFewerDependents (uppers_of layout.now victim)
+        (with_record pages.old victim (record (record_at pages.old.records victim) {
+          resident = false;
+        })) pages.new }
+{
+    pages.evict(victim);
+    pages.remove_dependents(layout.uppers_of(victim));
+}
+
+/// Records that the maker begins to load the page.
+fn load(pages: &mut PageTable, layout: &Layout, page: u32, by: MakerId)
+    requires page_range { page < length pages.old.records }
+    requires absent { (record_at pages.old.records page).resident ≡ false }
+    requires idle { (record_at pages.old.records page).loader ≡ None }
+    requires upper_range { (p : ℕ) → is_among (uppers_of layout.now page) p ≡ true →
+        p < length pages.old.records }
+    requires room { (p : ℕ) →
+        (record_at pages.old.records p).dependents + times (uppers_of layout.now page) p < 2 ^ 32 }
+    ensures { HaveMoreDependents (uppers_of layout.now page)
+        (with_record pages.old page (record (record_at pages.old.records page) {
+          loader = Some by;
+        })) pages.new }
+{
+    pages.begin_load(page, by);
+    pages.add_dependents(layout.uppers_of(page));
 }
 
 /// Records that a load of the page ended without it.
-fn lose(tables: &mut Tables, layout: &Layout, page: u32, count: u64) {
-    tables.pages.end_load(page, count);
-    tables.pages.remove_dependents(layout.uppers_of(page));
+fn lose(pages: &mut PageTable, layout: &Layout, page: u32, count: u64)
+    requires absent { (record_at pages.old.records page).resident ≡ false }
+    requires loading { is_some (record_at pages.old.records page).loader ≡ true }
+    requires upper_range { (p : ℕ) → is_among (uppers_of layout.now page) p ≡ true →
+        p < length pages.old.records }
+    requires counted { (p : ℕ) →
+        times (uppers_of layout.now page) p ≤ (record_at pages.old.records p).dependents }
+    ensures { HaveFewerDependents (uppers_of layout.now page)
+        (with_record pages.old page (record (record_at pages.old.records page) {
+          loader = None;
+          load_ended_at = count;
+        })) pages.new }
+{
+    pages.end_load(page, count);
+    pages.remove_dependents(layout.uppers_of(page));
 }
 
 /// Enters a Pin.
@@ -54,7 +123,7 @@ fn pin(
     tables.frames.pin(alloc, frame, by, next_count(journal))
 }
 
-/// Enters a Settle.
+/// Enters a Settle. After Memory the tables are as before.
 fn settle(
     tables: &mut Tables,
     alloc: Global,
@@ -68,14 +137,15 @@ fn settle(
     requires { IsNext layout.now journal.now tables.old
         (record { by = by.0; what = Settle frame.0 pages.now missing.now }) }
     ensures tables { OnOk result (AreTables layout.now
-        (journal.now ++ record { by = by.0; what = Settle frame.0 pages.now missing.now } ∷ []) tables.new) }
+        (journal.now ++ record { by = by.0; what = Settle frame.0 pages.now missing.now } ∷ [])
+        tables.new) }
     ensures unchanged { OnErr result (tables.new ≡ tables.old) }
 {
     let count = next_count(journal);
     let pins = ExplicitPins::settled(alloc, pages, missing)?;
     tables.wants.reserve(missing.len())?;
-    unpin_frame(tables, frame);
-    pin_each(&mut tables.pages, pages);
+    unpin_frame(&mut tables.pages, &tables.frames, frame);
+    pin_pages(&mut tables.pages, &tables.frames, pages);
     tables.pages.use_pages(pages, count);
     tables.frames.settle(frame, by, count, pins);
     let like = QueuedWant {
@@ -90,7 +160,7 @@ fn settle(
     Ok(())
 }
 
-/// Enters an Ask.
+/// Enters an Ask. After Memory the tables are as before.
 fn ask(
     tables: &mut Tables,
     layout: &Layout,
@@ -120,7 +190,7 @@ fn ask(
     Ok(())
 }
 
-/// Enters a Narrow.
+/// Enters a Narrow. After Memory the tables are as before.
 fn narrow(
     tables: &mut Tables,
     alloc: Global,
@@ -138,14 +208,14 @@ fn narrow(
 {
     let count = next_count(journal);
     let named = Vec::from_slice(alloc, pages)?;
-    unpin_frame(tables, frame);
-    pin_each(&mut tables.pages, pages);
+    unpin_frame(&mut tables.pages, &tables.frames, frame);
+    pin_pages(&mut tables.pages, &tables.frames, pages);
     tables.pages.use_pages(pages, count);
     tables.frames.narrow(frame, by, named);
     Ok(())
 }
 
-/// Enters a Take.
+/// Enters a Take. After Memory the tables are as before.
 fn take(
     tables: &mut Tables,
     layout: &Layout,
@@ -163,10 +233,11 @@ fn take(
 {
     tables.makers.begin(by)?;
     if let Some(victim) = victim {
-        evict(tables, layout, victim);
+        evict(&mut tables.pages, layout, victim);
+        load(&mut tables.pages, layout, page, by);
+        return Ok(());
     }
-    tables.pages.begin_load(page, by);
-    tables.pages.add_dependents(layout.uppers_of(page));
+    load(&mut tables.pages, layout, page, by);
     Ok(())
 }
 
@@ -183,7 +254,7 @@ fn unpin(
     ensures { AreTables layout.now
         (journal.now ++ record { by = by.0; what = Unpin frame.0 } ∷ []) tables.new }
 {
-    unpin_frame(tables, frame);
+    unpin_frame(&mut tables.pages, &tables.frames, frame);
     tables.frames.unpin(frame, next_count(journal));
 }
 
@@ -224,7 +295,7 @@ fn fail(
         (journal.now ++ record { by = by.0; what = Fail page before after } ∷ []) tables.new }
 {
     tables.makers.fail(by, after);
-    lose(tables, layout, page, next_count(journal));
+    lose(&mut tables.pages, layout, page, next_count(journal));
 }
 
 /// Enters a Spoil.
@@ -241,7 +312,7 @@ fn spoil(
     ensures { AreTables layout.now
         (journal.now ++ record { by = by.0; what = Spoil page why.now } ∷ []) tables.new }
 {
-    lose(tables, layout, page, next_count(journal));
+    lose(&mut tables.pages, layout, page, next_count(journal));
 }
 
 /// Enters a Starve.
@@ -257,7 +328,22 @@ fn starve(
     ensures { AreTables layout.now
         (journal.now ++ record { by = by.0; what = Starve page } ∷ []) tables.new }
 {
-    lose(tables, layout, page, next_count(journal));
+    lose(&mut tables.pages, layout, page, next_count(journal));
+}
+
+/// Enters a Full, which changes nothing.
+fn full(
+    tables: &mut Tables,
+    layout: &Layout,
+    journal: &[Entry],
+    by: MakerId,
+    frame: FrameId,
+)
+    requires { IsNext layout.now journal.now tables.old
+        (record { by = by.0; what = Full frame.0 }) }
+    ensures { AreTables layout.now
+        (journal.now ++ record { by = by.0; what = Full frame.0 } ∷ []) tables.new }
+{
 }
 
 /// Enters a Stop.
