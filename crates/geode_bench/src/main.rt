@@ -5,15 +5,20 @@
 //! which makes the table of edges; `rims`, which makes the rim of the whole list; `joined-rims`, which makes the
 //! rims of pieces of 128 triangles and joins them by eights; or `clusters`, which cuts the triangles into
 //! clusters. Scripts time it from outside: a piece's time is its run less that of `read`. What it prints depends on the mesh alone.
+//!
+//! `geode_bench heads N` reads nothing. It checks the heads of a DAG of N groups of one cluster each, a thousand groups
+//! to a page, in which each group but the first is made into the one before, and prints the time that the check took.
 #![tactic(auto)]
 
 ghost use Rattle.geom_core.specs.Limits.{AreGridTriangles};
 
+mod heads;
 mod rims;
 mod works;
 
 use geom_core::limits::STEPS_PER_UNIT;
 use geom_core::{Memory, Tri};
+use heads::time_check;
 use obj_source::read_obj;
 use rims::count_joined_rims;
 use span_io::StdSource;
@@ -22,8 +27,13 @@ use std::process::ExitCode;
 use works::{Work, count_clusters, count_edges, count_rim, sort_edges};
 
 fn main(rt: HostRuntime) -> ExitCode {
+    if let Some(groups) = group_count(&rt) {
+        return time_check(&rt, groups);
+    }
     let Some(work) = work_of(&rt) else {
-        let _ = eprintln!(rt; "geode_bench: one of read, sort, edges, rims, joined-rims, clusters");
+        let _ = eprintln!(rt;
+            "geode_bench: one of read, sort, edges, rims, joined-rims, clusters, or heads N"
+        );
         return ExitCode::from(2);
     };
     let mut input = StdSource::of(rt.stdin());
@@ -35,6 +45,14 @@ fn main(rt: HostRuntime) -> ExitCode {
         Ok(()) => ExitCode::SUCCESS,
         Err(Memory) => ExitCode::FAILURE,
     }
+}
+
+/// The number of groups, if the command line is `heads` and a number.
+fn group_count(rt: &HostRuntime) -> Option<u32> {
+    let mut words = env::args(rt).ok()?.skip(1);
+    let is_heads = words.next()?.as_str() == "heads";
+    let groups = words.next()?.parse::<u32>().ok()?;
+    if is_heads { Some(groups) } else { None }
 }
 
 /// The work that the command line asks for.

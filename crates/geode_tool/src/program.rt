@@ -19,19 +19,29 @@ pub fn call<S: Source, K: Sink>(
     input: &mut S,
     out: &mut K,
 ) -> Result<Done, Fault>
-    ensures usage { command_words (drop 1 (map string_bytes args.now)) ≡ None
+    ensures usage { command_words (map string_bytes (drop 1 args.now)) ≡ None
         → (result ≡ Err (Fault.Usage UsageKind.Line)) ⊎ (result ≡ Err Fault.Memory) }
-    ensures unchanged { command_words (drop 1 (map string_bytes args.now)) ≡ None
+    ensures unchanged { command_words (map string_bytes (drop 1 args.now)) ≡ None
         → (input.new ≡ input.old) × (out.new ≡ out.old) }
-    ensures promise { IfSome (command_words (drop 1 (map string_bytes args.now))) (λ command.
+    ensures promise { IfSome (command_words (map string_bytes (drop 1 args.now))) (λ command.
         Holds command
         (streams (S.left input.old) (S.faults input.old)
         (K.written out.old) (K.flushed out.old) (K.faults out.old) out.old)
         (streams (S.left input.new) (S.faults input.new)
         (K.written out.new) (K.flushed out.new) (K.faults out.new) out.new) result) }
 {
-    let words = slices_of(alloc, args.get(1..).unwrap_or_default())?;
+    let words = slices_of(alloc, words_of(args))?;
     geode(alloc, &words, input, out)
+}
+
+/// Returns the words after the program's name.
+fn words_of(args: &[String]) -> &[String]
+    ensures { result.now ≡ drop 1 args.now }
+{
+    match args {
+        [] => args,
+        [_program, words @ ..] => words,
+    }
 }
 
 /// Returns the texts of words.

@@ -12,7 +12,7 @@ loop-row-preserved c =
           rw (w.tris-is, w.in_ok-push.ensures.items) (record {
             count = count-more tris t c.loop-row.row-index c.loop-row.invariant.count;
             range = range-more tris t c.loop-row.invariant.range
-            (sym c.is_grid_triangle.ensures ∙ w.if-is_grid_triangle.true);
+                (sym c.is_grid_triangle.ensures ∙ w.if-is_grid_triangle.true);
           })
       | else-is_grid_triangle w ↦
           rw w.tris-is (record { count = omega arith; range = c.loop-row.invariant.range })
