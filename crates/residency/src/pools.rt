@@ -119,6 +119,13 @@ impl Pool {
         Ok(())
     }
 
+    /// Whether the entry is allowed next.
+    pub fn allows(&self, entry: &Entry) -> bool
+        ensures { result ≡ is_allowed self.now.layout self.now.journal entry.now }
+    {
+        allows(&self.tables, &self.layout, entry)
+    }
+
     /// Enters one entry. After an error the pool is as before.
     pub fn step(&mut self, alloc: Global, entry: Entry) -> Result<(), StepFault>
         ensures entered { OnOk result (self.new ≡ entered self.old entry) }
