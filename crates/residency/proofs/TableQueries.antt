@@ -79,8 +79,8 @@ narrow-told layout journal tables by frame pages item are at =
     (b && (ascends pages && list_all (pins_by_records tables.pages.records item) pages))
     ≡ (owns s by frame && (ascends pages && list_all (pins s frame) pages))) [
       | true ↦ λ e. rw (sym own ∙ e)
-        (ap (λ b. ascends pages && b) (all-alike (pins_by_records tables.pages.records item) (pins s frame) pages
-        (pins-told layout journal tables frame item are at (owned-live by item e))))
+          (ap (λ b. ascends pages && b) (all-alike (pins_by_records tables.pages.records item) (pins s frame) pages
+          (pins-told layout journal tables frame item are at (owned-live by item e))))
       | false ↦ λ e. rw (sym own ∙ e) refl
     ] refl
 

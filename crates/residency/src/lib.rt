@@ -14,6 +14,10 @@
 mod events;
 mod faults;
 mod nexts;
+#[cfg(test)]
+mod offer_tests;
+#[cfg(test)]
+mod pool_tests;
 mod pools;
 mod rules;
 mod tables;

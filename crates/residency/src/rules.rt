@@ -158,13 +158,7 @@ fn allows_settle(
 }
 
 /// Whether an Ask is allowed.
-fn allows_ask(
-    tables: &Tables,
-    layout: &Layout,
-    by: MakerId,
-    frame: FrameId,
-    pages: &[u32],
-) -> bool
+fn allows_ask(tables: &Tables, layout: &Layout, by: MakerId, frame: FrameId, pages: &[u32]) -> bool
     ensures { (journal : List Entry) → AreTables layout.now journal tables.now →
         result ≡ allows layout.now (state_of layout.now journal) journal by.0
         (Ask frame.0 pages.now) }
@@ -254,7 +248,14 @@ pub fn allows(tables: &Tables, layout: &Layout, entry: &Entry) -> bool
             missing,
         } => {
             let frame = FrameId(*frame);
-            allows_settle(tables, layout, by, frame, pages.as_slice(), missing.as_slice())
+            allows_settle(
+                tables,
+                layout,
+                by,
+                frame,
+                pages.as_slice(),
+                missing.as_slice(),
+            )
         }
         What::Ask { frame, pages } => {
             allows_ask(tables, layout, by, FrameId(*frame), pages.as_slice())
