@@ -1,12 +1,16 @@
-ghost use Rattle.std.specs.Prelude.{◌≡◌, ◌==◌, ◌+◌, ◌<◌, ◌^◌, ◌&&◌, ℕ, length, IfOk, IfSome, OnErr, OnOk, Some, [], true, if◌then◌else◌};
+ghost use Rattle.std.specs.Prelude.{◌≡◌, ◌==◌, ◌+◌, ◌<◌, ◌≤◌, ◌^◌, ◌&&◌, ℕ, length, IfOk, IfSome, OnErr, OnOk, Some, [], true, if◌then◌else◌};
 ghost use Rattle.std.specs.Option.{option_copied, option_map};
 ghost use Rattle.journal.specs.Layout.{ascends};
-ghost use Rattle.pool_tables.specs.FrameItems.{IsLatest, PutsItem, asked_in, asked_item, ended_in, ended_item, installed_item, item_in, item_of, narrowed_item, pin_count, pinned_item, settled_item, snapshot_in};
+ghost use Rattle.pool_tables.specs.FrameItems.{IsLatest, PutsItem, asked_in, asked_item, ended_in, ended_item, installed_item, item_in, item_of, narrowed_item, pin_count, pinned_item, pins_in, settled_item, snapshot_in};
+ghost use Rattle.pool_tables.specs.PageRecords.{record_at};
+ghost use Rattle.pool_tables.specs.PinMoves.{MovesPins};
 ghost use Rattle.pool_tables.specs.Internal.SnapshotList.{AreListed, IsCurrent, IsSnapshotList};
 
 use crate::explicit_pins::ExplicitPins;
 use crate::frame_item::{FrameId, FrameItem};
 use crate::page_record::MakerId;
+use crate::page_table::PageTable;
+use crate::pin_moves::unpin_item;
 use crate::snapshot::Snapshot;
 use geom_core::Memory;
 use std::alloc::Global;
@@ -61,20 +65,27 @@ fn pop_stale(snapshots: &mut Vec<Snapshot>, items: &BTreeMap<u32, FrameItem>)
     }
 }
 
-/// Records a Pin: makes the frame's item, or renews it.
+/// Records a Pin: makes the frame's item, or renews it and removes its explicit pins from the counts by page.
 fn pin_item(
     items: &mut BTreeMap<u32, FrameItem>,
+    pages: &mut PageTable,
     alloc: Global,
     frame: FrameId,
     by: MakerId,
     count: u64,
 ) -> Result<(), Memory>
+    requires counted { (p : ℕ) → pins_in (item_in items.old.entries frame.0) p
+        ≤ (record_at pages.old.records p).pins }
     ensures pinned { OnOk result (PutsItem frame.0
         (Some (pinned_item by count (item_in items.old.entries frame.0)))
         items.old.entries items.new.entries) }
+    ensures pins { OnOk result (MovesPins (pins_in (item_in items.old.entries frame.0)) (λ p. 0)
+        pages.old pages.new) }
     ensures unchanged { OnErr result (items.new.entries ≡ items.old.entries) }
+    ensures pages { OnErr result (pages.new ≡ pages.old) }
 {
     if let Some(item) = items.get_mut(&frame.0) {
+        unpin_item(pages, &item.pins);
         item.pin_again(by, count);
         return Ok(());
     }
@@ -219,23 +230,30 @@ impl FrameTable {
         }
     }
 
-    /// Records a Pin of the frame at this count of entries, after all other snapshots.
+    /// Records a Pin of the frame at this count of entries, after all other snapshots, and removes the frame's
+    /// explicit pins from the counts by page.
     pub fn pin(
         &mut self,
+        pages: &mut PageTable,
         alloc: Global,
         frame: FrameId,
         by: MakerId,
         count: u64,
     ) -> Result<(), Memory>
         requires later { (n c : ℕ) → snapshot_in (item_of self.old n) ≡ Some c → c < count }
+        requires counted { (p : ℕ) → pins_in (item_of self.old frame.0) p
+            ≤ (record_at pages.old.records p).pins }
         ensures pinned { OnOk result (PutsItem frame.0
             (Some (pinned_item by count (item_of self.old frame.0)))
             self.old.items self.new.items) }
+        ensures pins { OnOk result (MovesPins (pins_in (item_of self.old frame.0)) (λ p. 0)
+            pages.old pages.new) }
         ensures last_asked { self.new.last_asked ≡ self.old.last_asked }
         ensures unchanged { OnErr result (self.new ≡ self.old) }
+        ensures pages { OnErr result (pages.new ≡ pages.old) }
     {
         self.snapshots.reserve(1)?;
-        pin_item(&mut self.items, alloc, frame, by, count)?;
+        pin_item(&mut self.items, pages, alloc, frame, by, count)?;
         let _pushed = self.snapshots.push(Snapshot {
             count,
             frame: frame.0,

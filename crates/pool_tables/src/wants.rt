@@ -1,5 +1,8 @@
 ghost use Rattle.std.specs.Prelude.{◌≡◌, ◌==◌, ◌&&◌, ◌+◌, ◌≤◌, ◌++◌, [], ℕ, Option, OnErr, OnOk, count_by, find, if◌then◌else◌, length, map, true, false};
+ghost use Rattle.std.specs.List.Sorted.{IsStrictlySortedBy};
+ghost use Rattle.std.specs.Map.{keys_of};
 ghost use Rattle.std.specs.Option.{option_map};
+ghost use Rattle.std.specs.Ordering.{nat_cmp};
 ghost use Rattle.std.specs.Vec.{vec_capacity};
 ghost use Rattle.pool_rules.specs.State.{waits_for};
 ghost use Rattle.pool_tables.specs.declared.frame_item.FrameId.{FrameId};
@@ -118,6 +121,8 @@ fn install_for(want: QueuedWant, frames: &mut FrameTable, pages: &PageTable, pag
         ≡ (if is_waiting (counts_in pages.now.records frames.old) page want && (want.frame.0 == n)
         then option_map (installed_item page) (item_of frames.old n) else item_of frames.old n) }
     ensures last_asked { frames.new.last_asked ≡ frames.old.last_asked }
+    ensures ordered { IsStrictlySortedBy nat_cmp (keys_of frames.old.items) →
+        IsStrictlySortedBy nat_cmp (keys_of frames.new.items) }
     ensures pins { (p : ℕ) → pin_count frames.new.items p
         ≡ pin_count frames.old.items p + (if page == p then result else 0) }
     ensures one { result ≤ 1 }
@@ -135,6 +140,8 @@ fn install(wants: &[QueuedWant], frames: &mut FrameTable, pages: &PageTable, pag
         ≡ (if waits_for (standing (counts_in pages.now.records frames.old) wants.now) n page
         then option_map (installed_item page) (item_of frames.old n) else item_of frames.old n) }
     ensures last_asked { frames.new.last_asked ≡ frames.old.last_asked }
+    ensures ordered { IsStrictlySortedBy nat_cmp (keys_of frames.old.items) →
+        IsStrictlySortedBy nat_cmp (keys_of frames.new.items) }
     ensures pins { (p : ℕ) → pin_count frames.new.items p
         ≡ pin_count frames.old.items p + (if page == p then result else 0) }
 {
@@ -220,6 +227,8 @@ impl WantList {
             page then option_map (installed_item page) (item_of frames.old n)
             else item_of frames.old n) }
         ensures last_asked { frames.new.last_asked ≡ frames.old.last_asked }
+        ensures ordered { IsStrictlySortedBy nat_cmp (keys_of frames.old.items) →
+            IsStrictlySortedBy nat_cmp (keys_of frames.new.items) }
         ensures pins { (p : ℕ) → pin_count frames.new.items p
             ≡ pin_count frames.old.items p + (if page == p then result else 0) }
     {

@@ -40,15 +40,15 @@ pub all-appended : (P : QueuedWant → Type 0) (counts : WantCounts) (list : Lis
 all-appended P counts list like pages olds news =
     all-append P (closed_up counts list) (map (of_page like) pages) (all-closed_up P counts list olds) news
 
--- no want of the list was made as late as by the next entry
+-- each want of the list was made by an entry before the next
 pub all-earlier : (layout : Layout) (s : State) (journal : List Entry) (tables : Tables) (P : QueuedWant → Type 0) →
     AreTablesAt layout s journal tables →
-    ((w : QueuedWant) → w.made_at < s.entries + 1 → IsWaited tables.frames w → P w) →
+    ((w : QueuedWant) → 0 < w.made_at → w.made_at < s.entries + 1 → IsWaited tables.frames w → P w) →
     AllByRecursion P tables.wants.wants
 all-earlier layout s journal tables P are each =
     let counts = counts_in tables.pages.records tables.frames in
     all-weaker (λ w. IsTimelyWant s.entries counts w × IsWaited tables.frames w) P
-    (λ w h. let made = h.0.made in each w (omega (arith, made)) h.1) tables.wants.wants
+    (λ w h. let made = h.0.made in each w h.0.some (omega (arith, made)) h.1) tables.wants.wants
     (all-both (IsTimelyWant s.entries counts) (IsWaited tables.frames) tables.wants.wants are.wants.timely are.waited)
 
 some-same : {a b : FrameItem} → Some a ≡ Some b → a ≡ b
@@ -109,7 +109,7 @@ AreTablesAt-ask layout s journal tables by frame pages frames wants like are own
       waited = subst (AllByRecursion (IsWaited frames)) (sym list)
           (all-appended (IsWaited frames) counts tables.wants.wants like pages
           (all-earlier layout s journal tables (IsWaited frames) are
-          (λ w early waited. IsWaited-asked frame count tables.frames frames w early puts waited))
+          (λ w some early waited. IsWaited-asked frame count tables.frames frames w early puts waited))
           (all-of_pages (IsWaited frames) like pages (λ page among. IsWaited-new_ask frames like page no_settle)));
       makers = AreMakers-other journal s.loading s.loading tables.makers e are.makers refl (λ p m at. at);
       stopped = are.stopped;

@@ -1,9 +1,11 @@
 pub mod Examples
 pub mod AskTables
 pub mod FrameRecords
+pub mod InstallTables
 pub mod LoaderChoices
 pub mod LostTables
 pub mod Openings
+pub mod PinTables
 pub mod RefusedPlaces
 pub mod RepinTables
 pub mod StillTables

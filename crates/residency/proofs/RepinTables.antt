@@ -76,7 +76,7 @@ ArePagesOf-repinned layout s count pages went old bare pinned new re are =
     re.came
 
 -- pages without flags are each pinned as often as they are named
-times-unflagged : (pages missing : List ℕ) (n p : ℕ) →
+pub times-unflagged : (pages missing : List ℕ) (n p : ℕ) →
     times (pages ++ flagged missing (replicate n false)) p ≡ times pages p
 times-unflagged pages missing n p =
     let none : times (flagged missing (replicate n false)) p ≡ 0 = ap (λ ps. times ps p) (flagged-unset missing n) in
@@ -228,7 +228,7 @@ AreTablesAt-settle layout s journal tables by frame pages missing bare pinned ne
       waited = subst (AllByRecursion (IsWaited frames)) (sym list)
           (all-appended (IsWaited frames) counts tables.wants.wants like missing
           (all-earlier layout s journal tables (IsWaited frames) are
-          (λ w early waited. IsWaited-settled frame by count (settled_pins pages missing) tables.frames frames w early puts waited))
+          (λ w some early waited. IsWaited-settled frame by count (settled_pins pages missing) tables.frames frames w early puts waited))
           (all-of_pages (IsWaited frames) like missing
           (λ page among. IsWaited-new frame by count pages missing tables.frames frames like of_frame puts page among)));
       makers = AreMakers-other journal s.loading s.loading tables.makers e are.makers refl (λ p m at. at);

@@ -104,7 +104,7 @@ fn lose(pages: &mut PageTable, layout: &Layout, page: u32, count: u64)
     pages.remove_dependents(layout.uppers_of(page));
 }
 
-/// Enters a Pin.
+/// Enters a Pin. After Memory the tables are as before.
 fn pin(
     tables: &mut Tables,
     alloc: Global,
@@ -119,8 +119,11 @@ fn pin(
         (journal.now ++ record { by = by.0; what = Pin frame.0 } ∷ []) tables.new) }
     ensures unchanged { OnErr result (tables.new ≡ tables.old) }
 {
-    // DRAFT: the frame's old explicit pins must leave the counts by page, after the memory is there.
-    tables.frames.pin(alloc, frame, by, next_count(journal))
+    let count = next_count(journal);
+    tables
+        .frames
+        .pin(&mut tables.pages, alloc, frame, by, count)?;
+    Ok(())
 }
 
 /// Enters a Settle. After Memory the tables are as before.
@@ -275,6 +278,8 @@ fn install(
     let pins = tables
         .wants
         .install(&mut tables.frames, &tables.pages, page);
+    // There are fewer than 2^63 frames, and each pins a page at most twice: the count has room for these pins.
+    let _frames = tables.frames.len();
     tables.pages.pin(page, pins as u64);
     tables.pages.install(page, next_count(journal));
 }
@@ -361,7 +366,34 @@ fn stop(
     tables.stopped = true;
 }
 
-/// Enters an entry of any kind.
+/// Enters an Unpin, Install, Fail, Spoil, Starve or Stop, which need no memory.
+pub fn enter_kept(tables: &mut Tables, layout: &Layout, journal: &[Entry], entry: &Entry)
+    requires next { IsNext layout.now journal.now tables.old entry.now }
+    requires kept { needs_no_memory entry.now.what ≡ true }
+    ensures { AreTables layout.now (journal.now ++ entry.now ∷ []) tables.new }
+{
+    let by = MakerId(entry.by);
+    match &entry.what {
+        What::Unpin { frame } => unpin(tables, layout, journal, by, FrameId(*frame)),
+        What::Install { page, digest } => install(tables, layout, journal, by, *page, *digest),
+        What::Fail {
+            page,
+            before,
+            after,
+        } => fail(tables, layout, journal, by, *page, *before, *after),
+        What::Spoil { page, why } => spoil(tables, layout, journal, by, *page, why),
+        What::Starve { page } => starve(tables, layout, journal, by, *page),
+        What::Stop => stop(tables, layout, journal, by),
+        What::Pin { .. }
+        | What::Settle { .. }
+        | What::Ask { .. }
+        | What::Narrow { .. }
+        | What::Take { .. }
+        | What::Full { .. } => {}
+    }
+}
+
+/// Enters an entry of any kind. After Memory the tables are as before.
 pub fn enter(
     tables: &mut Tables,
     alloc: Global,
@@ -373,15 +405,50 @@ pub fn enter(
     ensures tables { OnOk result (AreTables layout.now (journal.now ++ entry.now ∷ []) tables.new) }
     ensures unchanged { OnErr result (tables.new ≡ tables.old) }
 {
-    // DRAFT: one match on the event; a Full changes nothing.
-    Ok(())
-}
-
-/// Enters an Unpin, Install, Fail, Spoil, Starve or Stop, which need no memory.
-pub fn enter_kept(tables: &mut Tables, layout: &Layout, journal: &[Entry], entry: &Entry)
-    requires next { IsNext layout.now journal.now tables.old entry.now }
-    requires kept { needs_no_memory entry.now.what ≡ true }
-    ensures { AreTables layout.now (journal.now ++ entry.now ∷ []) tables.new }
-{
-    // DRAFT
+    let by = MakerId(entry.by);
+    match &entry.what {
+        What::Pin { frame } => pin(tables, alloc, layout, journal, by, FrameId(*frame)),
+        What::Settle {
+            frame,
+            pages,
+            missing,
+        } => {
+            let frame = FrameId(*frame);
+            settle(
+                tables,
+                alloc,
+                layout,
+                journal,
+                by,
+                frame,
+                pages.as_slice(),
+                missing.as_slice(),
+            )
+        }
+        What::Ask { frame, pages } => {
+            ask(tables, layout, journal, by, FrameId(*frame), pages.as_slice())
+        }
+        What::Narrow { frame, pages } => {
+            let frame = FrameId(*frame);
+            narrow(tables, alloc, layout, journal, by, frame, pages.as_slice())
+        }
+        What::Take {
+            frame,
+            page,
+            victim,
+        } => take(tables, layout, journal, by, *frame, *page, *victim),
+        What::Full { frame } => {
+            full(tables, layout, journal, by, FrameId(*frame));
+            Ok(())
+        }
+        What::Unpin { .. }
+        | What::Install { .. }
+        | What::Fail { .. }
+        | What::Spoil { .. }
+        | What::Starve { .. }
+        | What::Stop => {
+            enter_kept(tables, layout, journal, entry);
+            Ok(())
+        }
+    }
 }

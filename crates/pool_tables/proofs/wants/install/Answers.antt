@@ -30,6 +30,7 @@ loop-want-preserved c =
       asked = λ n. ap asked_in (done.items n) ∙ (asked-grown (b && (w.frame.0 == n)) page (item_of cur n) ∙ old.asked n);
       ended = λ n. ap ended_in (done.items n) ∙ (ended-grown (b && (w.frame.0 == n)) page (item_of cur n) ∙ old.ended n);
       last_asked = done.last_asked ∙ old.last_asked;
+      ordered = λ sorted. done.ordered (old.ordered sorted);
       pins = λ p. pins-step (page == p) (pin_count first.items p) (pin_count cur.items p) (pin_count new.items p) c.loop-want.pins c.install_for-pins.result (old.pins p) (done.pins p);
       few = omega (arith, old.few, done.one);
     }

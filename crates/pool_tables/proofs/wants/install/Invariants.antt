@@ -1,5 +1,8 @@
 use Rattle.std.proofs.Common.{◌≡◌, ◌+◌, ◌≤◌, ◌==◌, ℕ, cond, drop}
+use Rattle.std.specs.List.Sorted.{IsStrictlySortedBy}
+use Rattle.std.specs.Map.{keys_of}
 use Rattle.std.specs.Option.{option_map}
+use Rattle.std.specs.Ordering.{nat_cmp}
 use Rattle.pool_rules.specs.State.{waits_for}
 use Rattle.pool_tables.specs.FrameItems.{asked_in, ended_in, installed_item, item_of, pin_count}
 use Rattle.pool_tables.specs.WantQueue.{counts_in, standing}
@@ -11,6 +14,7 @@ invariant-loop-want l = record {
   asked : (n : ℕ) → asked_in (item_of l.frames n) ≡ asked_in (item_of l.fn.frames n);
   ended : (n : ℕ) → ended_in (item_of l.frames n) ≡ ended_in (item_of l.fn.frames n);
   last_asked : l.frames.last_asked ≡ l.fn.frames.last_asked;
+  ordered : IsStrictlySortedBy nat_cmp (keys_of l.fn.frames.items) → IsStrictlySortedBy nat_cmp (keys_of l.frames.items);
   pins : (p : ℕ) → pin_count l.frames.items p ≡ pin_count l.fn.frames.items p + cond (l.page == p) l.pins 0;
   few : l.pins ≤ l.want-index;
 }
