@@ -6,7 +6,7 @@ use Rattle.pool_tables.specs.PageRecords.{PageRecords, record_at}
 use Rattle.pool_tables.proofs.PageRanges.{used-later}
 use Rattle.residency.proofs.InstallTables.{AreTablesAt-install, CanInstall, CanInstall-pinned, CanPin-installed, InstallsFrames, pinned_by, resident_from, waits_in}
 use Rattle.residency.proofs.TablesAt.{AreTablesAt, AreTablesAt-legal, AreTables-push, IsPast-legal, next-entries}
-use Rattle.residency.proofs.events.install.Goals as goal
+use Rattle.residency.proofs.changes.install.Goals as goal
 
 pub pin-requires : goal.pin-requires
 pin-requires c =

@@ -8,7 +8,7 @@ use Rattle.pool_tables.specs.WantQueue.{closed_up, counts_in, of_page}
 use Rattle.pool_tables.specs.declared.queued_want.QueuedWant.{QueuedWant}
 use Rattle.residency.proofs.AskTables.{AreTablesAt-ask}
 use Rattle.residency.proofs.TablesAt.{AreTablesAt-legal, AreTables-push, next-entries}
-use Rattle.residency.proofs.events.ask.Goals as goal
+use Rattle.residency.proofs.changes.ask.Goals as goal
 
 pub returns-clause-tables : goal.returns-clause-tables
 returns-clause-tables c =

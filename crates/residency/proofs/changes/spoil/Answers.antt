@@ -1,7 +1,7 @@
 use Rattle.std.proofs.Common.{◌≡◌, ◌∷◌, ◌&&◌, ◌+◌, [], true, refl, subst, set, None, nat_le, ℕ}
 use Rattle.journal.specs.Layout.{uppers_of}
 use Rattle.journal.specs.declared.entries.Entry.{Entry}
-use Rattle.journal.specs.declared.entries.What.TheVariants.{Starve}
+use Rattle.journal.specs.declared.entries.What.TheVariants.{Spoil}
 use Rattle.pool_rules.specs.Rules.{is_wrong, last_after, loads, rose}
 use Rattle.pool_rules.specs.State.{state_of}
 use Rattle.pool_rules.proofs.Tests.{and-both}
@@ -9,7 +9,7 @@ use Rattle.pool_tables.specs.Changes.{HaveFewerDependents}
 use Rattle.pool_tables.proofs.MakerMeanings.{AreMakers-fail, AreMakers-other}
 use Rattle.residency.proofs.LostTables.{AreTablesAt-lost, CanLose-loads, ended_load, fewer-loads, loader-item}
 use Rattle.residency.proofs.TablesAt.{AreTablesAt-legal, AreTables-push, IsPast-legal, next-entries}
-use Rattle.residency.proofs.events.starve.Goals as goal
+use Rattle.residency.proofs.changes.spoil.Goals as goal
 
 pub lose-requires : goal.lose-requires
 lose-requires c =
@@ -21,7 +21,7 @@ lose-requires c =
     let s = state_of layout journal in
     let past = IsPast-legal layout journal tables c.requires.past in
     let are = AreTablesAt-legal layout journal tables c.requires.past in
-    let loading : loads s by page ≡ true = c.requires.allowed in
+    let loading : loads s by page ≡ true = (and-both (loads s by page) (is_wrong c.args.why.now) c.requires.allowed).0 in
     let can = CanLose-loads layout s journal tables by page past are loading in
     record { absent = can.absent; loading = can.loading; upper_range = can.upper_range; counted = can.counted }
 
@@ -35,8 +35,8 @@ returns c =
     let s = state_of layout journal in
     let past = IsPast-legal layout journal tables c.requires.past in
     let are = AreTablesAt-legal layout journal tables c.requires.past in
-    let loading : loads s by page ≡ true = c.requires.allowed in
-    let e : Entry = record { by = by; what = Starve page } in
+    let loading : loads s by page ≡ true = (and-both (loads s by page) (is_wrong c.args.why.now) c.requires.allowed).0 in
+    let e : Entry = record { by = by; what = Spoil page c.args.why.now } in
     let new = c.lose.new.pages in
     let fewer = subst (λ (n : ℕ). HaveFewerDependents (uppers_of layout page) (ended_load tables.pages page n) new)
     (next-entries layout journal _ c.next_count.ensures) c.lose.ensures in

@@ -1,7 +1,7 @@
 use Rattle.pool_rules.specs.State.{state_of}
 use Rattle.residency.proofs.StillTables.{AreTablesAt-stop}
 use Rattle.residency.proofs.TablesAt.{AreTablesAt-legal, AreTables-push}
-use Rattle.residency.proofs.events.stop.Goals as goal
+use Rattle.residency.proofs.changes.stop.Goals as goal
 
 pub returns : goal.returns
 returns c =

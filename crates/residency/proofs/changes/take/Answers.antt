@@ -7,7 +7,7 @@ use Rattle.residency.specs.Internal.Tables.{AreTables}
 use Rattle.residency.specs.declared.tables.Tables.{Tables}
 use Rattle.residency.proofs.TablesAt.{AreTablesAt-legal, AreTables-push, IsPast-legal}
 use Rattle.residency.proofs.TakeTables.{AreTablesAt-take, AreTablesAt-take_for, CanEvict-evictable, CanLoad-absent, IsAllowedTake, take-parts, victim-free}
-use Rattle.residency.proofs.events.take.Goals as goal
+use Rattle.residency.proofs.changes.take.Goals as goal
 
 pub evict-requires : goal.evict-requires
 evict-requires c =

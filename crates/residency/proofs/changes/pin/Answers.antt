@@ -4,7 +4,7 @@ use Rattle.pool_tables.specs.FrameItems.{PutsItem, item_of, pinned_item}
 use Rattle.residency.proofs.PinTables.{AreTablesAt-pin}
 use Rattle.residency.proofs.TablesAt.{AreTablesAt-legal, AreTables-push, next-entries}
 use Rattle.residency.proofs.UnpinTables.{pins-counted}
-use Rattle.residency.proofs.events.pin.Goals as goal
+use Rattle.residency.proofs.changes.pin.Goals as goal
 
 pub pin-requires-clause-counted : goal.pin-requires-clause-counted
 pin-requires-clause-counted c =

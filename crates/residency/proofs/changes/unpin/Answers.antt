@@ -4,7 +4,7 @@ use Rattle.pool_rules.specs.State.{state_of}
 use Rattle.pool_tables.specs.FrameItems.{PutsItem, ended_item, item_of}
 use Rattle.residency.proofs.TablesAt.{AreTablesAt-legal, AreTables-push, next-entries}
 use Rattle.residency.proofs.UnpinTables.{AreTablesAt-unpin, pins-counted}
-use Rattle.residency.proofs.events.unpin.Goals as goal
+use Rattle.residency.proofs.changes.unpin.Goals as goal
 
 pub unpin_frame-requires : goal.unpin_frame-requires
 unpin_frame-requires c =

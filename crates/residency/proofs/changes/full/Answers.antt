@@ -5,7 +5,7 @@ use Rattle.pool_rules.specs.State.{state_of}
 use Rattle.pool_rules.proofs.Tests.{and-both}
 use Rattle.residency.proofs.StillTables.{AreTablesAt-full}
 use Rattle.residency.proofs.TablesAt.{AreTablesAt-legal, AreTables-push}
-use Rattle.residency.proofs.events.full.Goals as goal
+use Rattle.residency.proofs.changes.full.Goals as goal
 
 pub returns : goal.returns
 returns c =
