@@ -2,7 +2,7 @@ use Rattle.std.proofs.Common.{◌≡◌, ◌-◌, ap, arith, length, rules, subs
 use Rattle.std.specs.List.{slice_get}
 use Rattle.pool_tables.specs.Internal.SnapshotList.{AreListed}
 use Rattle.pool_tables.proofs.SnapshotLists.{AreListed-front}
-use Rattle.pool_tables.proofs.frames.pop_stale.Goals as goal
+use Rattle.pool_tables.proofs.snapshot.pop_stale.Goals as goal
 
 pub stale-preserved : goal.stale-preserved
 stale-preserved c =

@@ -1,6 +1,6 @@
 use Rattle.std.proofs.Common.{◌≡◌, length, find}
 use Rattle.pool_tables.specs.Eviction.{is_candidate}
-use Rattle.pool_tables.proofs.page_table.first_free.Given as goal
+use Rattle.pool_tables.proofs.free_pages.first_free.Given as goal
 
 -- the search through the pages left finds what the whole search does
 abbrev pub invariant-loop-page : goal.invariant-loop-page
