@@ -1,5 +1,5 @@
 -- One page more is used, or has a dependent more or less: the steps of loops over pages.
-use Rattle.std.proofs.Common.{◌≡◌, ◌≢◌, ℕ, suc, ◌+◌, ◌-◌, ◌<◌, ◌≤◌, ◌==◌, List, [], ◌∷◌, Bool, true, false, cond, ◌||◌, inl, inr, ⊎_elim, get_or, set, length, take, drop, refl, sym, ap, ◌∙◌, subst, arith, eq-eqb, length-set}
+use Rattle.std.proofs.Common.{◌≡◌, ◌≢◌, ℕ, suc, ◌+◌, ◌-◌, ◌<◌, ◌≤◌, ◌==◌, List, ◌∷◌, Bool, true, false, cond, ◌||◌, inl, inr, ⊎_elim, get_or, set, length, take, drop, refl, sym, ap, ◌∙◌, subst, arith, eq-eqb, length-set}
 use Rattle.std.proofs.Math.Seq.{drop-cons}
 use Rattle.std.proofs.lemmas.Bool.{cases_eq}
 use Rattle.std.proofs.lemmas.List.Sums.{count_by_more_yes, count_by_more_no, sum_by-take-le}
@@ -8,16 +8,12 @@ use Rattle.pool_rules.specs.Numbers.{is_among}
 use Rattle.pool_rules.proofs.Tests.{or-left}
 use Rattle.pool_tables.specs.PageRecords.{PageRecords, record_at, with_record, IsUsedBefore}
 use Rattle.pool_tables.specs.declared.page_record.PageRecord.{PageRecord}
-use Rattle.pool_tables.specs.Changes.{used_if, AreUsed, times, AreChanged, more_dependents, fewer_dependents, more_pins, fewer_pins, HaveMoreDependents, HaveFewerDependents, HaveMorePins, HaveFewerPins}
+use Rattle.pool_tables.specs.Changes.{used_if, AreUsed, times, AreChanged, more_dependents, fewer_dependents, HaveMoreDependents, HaveFewerDependents}
 use Rattle.pool_tables.proofs.Apart.{ne-eqb}
-use Rattle.pool_tables.proofs.AscendingNumbers.{among-at, after-place}
+use Rattle.pool_tables.proofs.AscendingNumbers.{after-place}
 use Rattle.pool_tables.proofs.UseOrder.{record-same, record-other}
 
 -- ---- pages that are used
-
--- no page is used yet
-pub AreUsed-none : (count : ℕ) (table : PageRecords) → AreUsed count [] table table
-AreUsed-none count table = record { roots = refl; len = refl; records = λ page. refl }
 
 -- use changes no residency
 pub used-resident : (b : Bool) (count : ℕ) (r : PageRecord) → (used_if b count r).resident ≡ r.resident
@@ -49,39 +45,6 @@ among-other : (pages : List ℕ) (k p : ℕ) → k < length pages → p ≢ get_
     is_among (drop k pages) p ≡ is_among (drop (k + 1) pages) p
 among-other pages k p within other = ap (λ ps. is_among ps p) (from-place pages k within)
     ∙ ap (λ b. b || is_among (drop (k + 1) pages) p) (ne-eqb (get_or pages k 0) p (λ e. other (sym e)))
-
--- the page at place k is used, where those after it were
-pub AreUsed-step : (count k page : ℕ) (pages : List ℕ) (old now : PageRecords) → k < length pages →
-    page ≡ get_or pages k 0 → page < length now.records → AreUsed count (drop (k + 1) pages) old now →
-    AreUsed count (drop k pages) old (with_record now page (record (record_at now.records page) { last_used = count }))
-AreUsed-step count k page pages old now within is below used =
-    let r : PageRecord = record (record_at now.records page) { last_used = count } in
-    let among : is_among (drop k pages) page ≡ true =
-    subst (λ p. is_among (drop k pages) p ≡ true) (sym is) (among-here pages k within) in
-    record {
-      roots = used.roots;
-      len = length-set now.records page r ∙ used.len;
-      records = λ p. ⊎_elim
-          (λ same. subst (λ q. record_at (set now.records page r) q
-          ≡ used_if (is_among (drop k pages) q) count (record_at old.records q)) (sym same)
-          (record-same now.records page r below ∙ (used-again (is_among (drop (k + 1) pages) page) count
-          (record_at old.records page) (record_at now.records page) (used.records page)
-          ∙ ap (λ b. used_if b count (record_at old.records page)) (sym among))))
-          (λ other.
-          let other_too : p ≢ get_or pages k 0 = λ e. other (e ∙ sym is) in
-          record-other now.records page p r other ∙ (used.records p
-          ∙ ap (λ b. used_if b count (record_at old.records p)) (sym (among-other pages k p within other_too))))
-          (cases_eq p page);
-    }
-
--- the page at place k is resident
-pub resident-step : (count k page : ℕ) (pages : List ℕ) (old now : PageRecords) → k < length pages →
-    page ≡ get_or pages k 0 → ((p : ℕ) → is_among pages p ≡ true → (record_at old.records p).resident ≡ true) →
-    AreUsed count (drop (k + 1) pages) old now → (record_at now.records page).resident ≡ true
-resident-step count k page pages old now within is resident used =
-    ap (λ (x : PageRecord). x.resident) (used.records page)
-    ∙ (used-resident (is_among (drop (k + 1) pages) page) count (record_at old.records page)
-    ∙ resident page (among-at pages k page within (sym is)))
 
 -- all others were used before it, or with it and are greater
 pub before-step : (count k page : ℕ) (pages : List ℕ) (old now : PageRecords) → k < length pages →
@@ -158,22 +121,6 @@ HaveFewerDependents-step i page uppers old now within is below fewer =
     AreChanged-step fewer_dependents i page uppers old now (fewer_dependents 1 (record_at now.records page)) within is
     below (λ k e. ap (fewer_dependents 1) e ∙ ap (λ n. record o { dependents = n }) (once-fewer o.dependents k)) fewer
 
-pub HaveMorePins-step : (i page : ℕ) (pages : List ℕ) (old now : PageRecords) → i < length pages →
-    page ≡ get_or pages i 0 → page < length now.records → HaveMorePins (take i pages) old now →
-    HaveMorePins (take (i + 1) pages) old (with_record now page (more_pins 1 (record_at now.records page)))
-HaveMorePins-step i page pages old now within is below more =
-    let o = record_at old.records page in
-    AreChanged-step more_pins i page pages old now (more_pins 1 (record_at now.records page)) within is below
-    (λ k e. ap (more_pins 1) e ∙ ap (λ n. record o { pins = n }) (once-more o.pins k)) more
-
-pub HaveFewerPins-step : (i page : ℕ) (pages : List ℕ) (old now : PageRecords) → i < length pages →
-    page ≡ get_or pages i 0 → page < length now.records → HaveFewerPins (take i pages) old now →
-    HaveFewerPins (take (i + 1) pages) old (with_record now page (fewer_pins 1 (record_at now.records page)))
-HaveFewerPins-step i page pages old now within is below fewer =
-    let o = record_at old.records page in
-    AreChanged-step fewer_pins i page pages old now (fewer_pins 1 (record_at now.records page)) within is below
-    (λ k e. ap (fewer_pins 1) e ∙ ap (λ n. record o { pins = n }) (once-fewer o.pins k)) fewer
-
 -- ---- what the records count after such changes
 
 pub more-dependents : (uppers : List ℕ) (old new : PageRecords) → HaveMoreDependents uppers old new → (page : ℕ) →
@@ -183,11 +130,3 @@ more-dependents uppers old new more page = ap (λ (x : PageRecord). x.dependents
 pub fewer-dependents : (uppers : List ℕ) (old new : PageRecords) → HaveFewerDependents uppers old new → (page : ℕ) →
     (record_at new.records page).dependents ≡ (record_at old.records page).dependents - times uppers page
 fewer-dependents uppers old new fewer page = ap (λ (x : PageRecord). x.dependents) (fewer.records page)
-
-pub more-pins : (pages : List ℕ) (old new : PageRecords) → HaveMorePins pages old new → (page : ℕ) →
-    (record_at new.records page).pins ≡ (record_at old.records page).pins + times pages page
-more-pins pages old new more page = ap (λ (x : PageRecord). x.pins) (more.records page)
-
-pub fewer-pins : (pages : List ℕ) (old new : PageRecords) → HaveFewerPins pages old new → (page : ℕ) →
-    (record_at new.records page).pins ≡ (record_at old.records page).pins - times pages page
-fewer-pins pages old new fewer page = ap (λ (x : PageRecord). x.pins) (fewer.records page)

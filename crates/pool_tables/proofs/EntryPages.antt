@@ -2,8 +2,7 @@
 use Rattle.std.proofs.Common.{◌≡◌, ℕ, ◌+◌, ◌<◌, ◌≤◌, nat_lt, List, [], ◌∷◌, Bool, true, false, not, ◌||◌, ⊎_elim, Option, Some, None, is_some, get_or, set, refl, sym, ap, ◌∙◌, arith, length-set}
 use Rattle.std.specs.List.{list_all}
 use Rattle.std.proofs.lemmas.Bool.Decides.{nat_tests, Decides-ltb}
-use Rattle.journal.specs.declared.entries.What.TheVariants.{Settle, Narrow, Take, Install, Fail, Spoil, Starve}
-use Rattle.journal.specs.declared.entries.Spoilt.{Spoilt}
+use Rattle.journal.specs.declared.entries.What.TheVariants.{Settle, Narrow, Take, Install}
 use Rattle.journal.specs.declared.layouts.Layout.{Layout}
 use Rattle.journal.specs.Layout.{InBounds, uppers_of}
 use Rattle.geom_core.specs.declared.digests.Digest32.{Digest32}
@@ -164,24 +163,6 @@ ArePagesOf-lost layout s by page old new bounds lists sound are loads fewer =
     ArePagesOf-ended layout s page (s.entries + 1) old new bounds lists are absent (loads-loading s by page loads)
     (no-root layout s page sound absent) (omega
     (arith, installed-below layout s by page lists loads, lists.flag_a_page)) fewer
-
-pub ArePagesOf-fail : (layout : Layout) (s : State) (by page before after : ℕ) (table : PageRecords) →
-    ArePagesOf layout (record s { loading = set s.loading page None }) table →
-    ArePagesOf layout (state_after s (record { by = by; what = Fail page before after })) table
-ArePagesOf-fail layout s by page before after table are =
-    ArePagesOf-again layout (record s { loading = set s.loading page None }) _ table refl refl refl are
-
-pub ArePagesOf-spoil : (layout : Layout) (s : State) (by page : ℕ) (why : Spoilt) (table : PageRecords) →
-    ArePagesOf layout (record s { loading = set s.loading page None }) table →
-    ArePagesOf layout (state_after s (record { by = by; what = Spoil page why })) table
-ArePagesOf-spoil layout s by page why table are =
-    ArePagesOf-again layout (record s { loading = set s.loading page None }) _ table refl refl refl are
-
-pub ArePagesOf-starve : (layout : Layout) (s : State) (by page : ℕ) (table : PageRecords) →
-    ArePagesOf layout (record s { loading = set s.loading page None }) table →
-    ArePagesOf layout (state_after s (record { by = by; what = Starve page })) table
-ArePagesOf-starve layout s by page table are =
-    ArePagesOf-again layout (record s { loading = set s.loading page None }) _ table refl refl refl are
 
 -- ---- Settle and Narrow
 

@@ -8,7 +8,7 @@ use Rattle.pool_rules.specs.Frame.{Frame}
 use Rattle.pool_rules.specs.State.{State, is_live}
 use Rattle.pool_rules.specs.Victim.{is_pinned}
 use Rattle.pool_tables.specs.Eviction.{is_in_snapshot}
-use Rattle.pool_tables.specs.FrameItems.{FrameItems, asked_in, asked_item, ended_in, ended_item, installed_item, item_of, narrowed_item, pinned_item, settled_item, snapshot_in}
+use Rattle.pool_tables.specs.FrameItems.{FrameItems, asked_in, asked_item, ended_in, ended_item, installed_item, item_of, narrowed_item, pinned_item, settled_item}
 use Rattle.pool_tables.specs.FrameMeaning.{AreFrames, IsTimelyItem, IsTimelyTable, frame_at}
 use Rattle.pool_tables.specs.FrameQueries.{is_live_in}
 use Rattle.pool_tables.specs.PageRecords.{record_at}
@@ -24,15 +24,6 @@ use Rattle.pool_tables.proofs.InstalledWants.{asked-grown, ended-grown}
 use Rattle.pool_tables.proofs.PinCounts.{is_live-item}
 
 -- ---- counts of entries
-
--- a snapshot is before an entry to come
-pub snapshots-earlier : (entries : ℕ) (table : FrameItems) → IsTimelyTable entries table → (n c : ℕ)
-    → snapshot_in (item_of table n) ≡ Some c → c < entries + 1
-snapshots-earlier entries table timely n c at = pick (item_of table n) refl at
-  where
-    pick : (o : Option FrameItem) → item_of table n ≡ o → snapshot_in o ≡ Some c → c < entries + 1
-    pick None is has = cc
-    pick (Some item) is has = omega (arith, (timely.items n item is).snapshot c has)
 
 -- a page that is installed by an entry to come is in no snapshot
 pub snapshots-uncovered : (entries : ℕ) (table : FrameItems) → IsTimelyTable entries table → (n : ℕ) (item : FrameItem)

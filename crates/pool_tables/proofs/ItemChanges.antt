@@ -63,12 +63,6 @@ PutsItem-changed frame change old new v w at is writes =
     let mapped : option_map change (item_in old.entries frame) ≡ Some w = ap (option_map change) at ∙ ap (λ (x : FrameItem). Some x) (sym is) in
     subst (λ (o : Option FrameItem). PutsItem frame o old.entries new.entries) (sym mapped) (PutsItem-written frame old new v w at writes)
 
-pub PutsItem-unchanged : (frame : ℕ) (change : FrameItem → FrameItem) (items : List (ℕ × FrameItem))
-    → IsStrictlySortedBy nat_cmp (keys_of items) → item_in items frame ≡ None
-    → PutsItem frame (option_map change (item_in items frame)) items items
-PutsItem-unchanged frame change items ordered absent =
-    subst (λ (o : Option FrameItem). PutsItem frame o items items) (sym (ap (option_map change) absent)) (PutsItem-absent frame items ordered absent)
-
 pub pins_in-some : (items : BTreeMap ℕ FrameItem) (frame : ℕ) (v : FrameItem) (page : ℕ)
     → get nat_cmp items frame ≡ Some v
     → pins_in (item_in items.entries frame) page ≡ times (pinned_pages v.pins) page

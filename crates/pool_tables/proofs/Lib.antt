@@ -17,7 +17,6 @@ pub mod PageCounts
 pub mod PageEvents
 pub mod PageRanges
 pub mod PageTimes
-pub mod PinnedPages
 pub mod PoolPages
 pub mod MakerMeanings
 pub mod Marks

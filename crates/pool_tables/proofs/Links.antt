@@ -161,10 +161,6 @@ below-longer : (n m : ℕ) (pages : List ℕ) → n < m → AllByRecursion (λ p
 below-longer n m [] lt h = tt
 below-longer n m (page ∷ pages) lt h = (omega (arith, lt, h.0), below-longer n m pages lt h.1)
 
-lacks-flip : (end : ℕ) (pages : List ℕ) → AllByRecursion (λ page. page < end) pages → AreApart pages →
-    AreApart (end ∷ pages)
-lacks-flip end pages below apart = (Lacks-below end pages below, apart)
-
 pub IsRing-push : (next previous : List ℕ) (end page : ℕ) (pages : List ℕ) → IsRing next previous end pages →
     page < end → is_among pages page ≡ false → (last : ℕ) → get_or previous end 0 ≡ last →
     IsRing (set (set next last page) page end) (set (set previous page last) end page) end (pages ++ page ∷ [])

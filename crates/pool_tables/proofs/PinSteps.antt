@@ -92,15 +92,6 @@ MovesPins-more went came step left old now new moves more split = record {
   pins = λ p. omega (arith, moves.pins p, more.pins p, split p);
 }
 
-pub MovesPins-both : (first second went : ℕ → ℕ) (old now new : PageRecords) → MovesPins first (λ p. 0) old now
-    → MovesPins second (λ p. 0) now new → ((p : ℕ) → went p ≡ first p + second p) → MovesPins went (λ p. 0) old new
-MovesPins-both first second went old now new moves more sum = record {
-  roots = more.roots ∙ moves.roots;
-  len = more.len ∙ moves.len;
-  others = λ p. more.others p ∙ ap (λ (x : PageRecord). record x { pins = (record_at new.records p).pins }) (moves.others p);
-  pins = λ p. omega (arith, moves.pins p, more.pins p, sum p);
-}
-
 -- no pins move
 pub MovesPins-none : (table : PageRecords) → MovesPins (λ p. 0) (λ p. 0) table table
 MovesPins-none table = record { roots = refl; len = refl; others = λ p. refl; pins = λ p. refl }

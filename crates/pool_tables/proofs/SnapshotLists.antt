@@ -122,13 +122,6 @@ below-last (x ∷ y ∷ rest) count up below =
 
 -- ---- the table of frames
 
--- no frame has a snapshot in an empty list
-pub IsSnapshotList-none : IsSnapshotList [] []
-IsSnapshotList-none = record {
-  all = record { ascending = tt; listed = λ n c h. cc };
-  last = λ s at. cc;
-}
-
 -- a last snapshot that no frame has any more goes
 pub AreListed-front : (items : List (ℕ × FrameItem)) (xs : List Snapshot) (s : Snapshot) → AreListed items xs
     → slice_get xs (length xs - 1) ≡ Some s → (IsCurrent items s → ⊥) → AreListed items (take (length xs - 1) xs)
@@ -147,19 +140,6 @@ AreListed-front items xs s old at stale = record {
               absurd (stale (ap (λ m. snapshot_in (item_in items m)) frame ∙ (has ∙ ap (λ k. Some k) (sym count))))
           | false ↦ λ e. refl
         ] refl
-
--- a list without a last one has none
-pub IsSnapshotList-empty : (items : List (ℕ × FrameItem)) (xs : List Snapshot) → AreListed items xs
-    → slice_get xs (length xs - 1) ≡ None → IsSnapshotList items xs
-IsSnapshotList-empty items xs all none = record { all = all; last = λ s at. cc }
-
--- a last one that its frame has stays
-pub IsSnapshotList-current : (items : List (ℕ × FrameItem)) (xs : List Snapshot) (s : Snapshot) → AreListed items xs
-    → slice_get xs (length xs - 1) ≡ Some s → IsCurrent items s → IsSnapshotList items xs
-IsSnapshotList-current items xs s all at current = record {
-  all = all;
-  last = λ t there. let same : s ≡ t = cc in subst (λ u. IsCurrent items u) same current;
-}
 
 -- the frames keep their snapshots, but for one that has none any more
 pub AreListed-unlisted : (frame : ℕ) (item : Option FrameItem) (old new : List (ℕ × FrameItem)) (xs : List Snapshot)

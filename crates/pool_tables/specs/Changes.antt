@@ -44,10 +44,3 @@ HaveMoreDependents uppers old new = AreChanged more_dependents uppers old new
 
 abbrev pub HaveFewerDependents : List ℕ → PageRecords → PageRecords → Type 0
 HaveFewerDependents uppers old new = AreChanged fewer_dependents uppers old new
-
--- each page has one explicit pin more for each time that it is among these
-abbrev pub HaveMorePins : List ℕ → PageRecords → PageRecords → Type 0
-HaveMorePins pages old new = AreChanged more_pins pages old new
-
-abbrev pub HaveFewerPins : List ℕ → PageRecords → PageRecords → Type 0
-HaveFewerPins pages old new = AreChanged fewer_pins pages old new

@@ -4,14 +4,14 @@ ghost use Rattle.journal.specs.Layout.{ascends};
 ghost use Rattle.pool_tables.specs.FrameItems.{IsLatest, PutsItem, asked_in, asked_item, ended_in, ended_item, installed_item, item_in, item_of, narrowed_item, pin_count, pinned_item, pins_in, settled_item, snapshot_in};
 ghost use Rattle.pool_tables.specs.PageRecords.{record_at};
 ghost use Rattle.pool_tables.specs.PinMoves.{MovesPins};
-ghost use Rattle.pool_tables.specs.Internal.SnapshotList.{AreListed, IsCurrent, IsSnapshotList};
+ghost use Rattle.pool_tables.specs.Internal.SnapshotList.{IsSnapshotList};
 
 use crate::explicit_pins::ExplicitPins;
 use crate::frame_item::{FrameId, FrameItem};
 use crate::page_record::MakerId;
 use crate::page_table::PageTable;
 use crate::pin_moves::unpin_item;
-use crate::snapshot::Snapshot;
+use crate::snapshot::{Snapshot, pop_stale};
 use geom_core::Memory;
 use std::alloc::Global;
 use std::collections::BTreeMap;
@@ -39,30 +39,6 @@ impl Model for FrameTable {
     ghost view = { λ table. record { items = table.items.entries; last_asked = table.last_asked } };
 
     ghost invariant = { λ table. IsSnapshotList table.items.entries table.snapshots.items };
-}
-
-/// Whether the frame of the snapshot still has it.
-fn is_current(items: &BTreeMap<u32, FrameItem>, snapshot: Snapshot) -> bool
-    ensures current { result ≡ true → IsCurrent items.now.entries snapshot }
-    ensures stale { IsCurrent items.now.entries snapshot → result ≡ true }
-{
-    match items.get(&snapshot.frame) {
-        Some(item) => item.snapshot == Some(snapshot.count),
-        None => false,
-    }
-}
-
-/// Removes the last snapshots up to one that is still its frame's.
-fn pop_stale(snapshots: &mut Vec<Snapshot>, items: &BTreeMap<u32, FrameItem>)
-    requires listed { AreListed items.now.entries snapshots.old.items }
-    ensures { IsSnapshotList items.now.entries snapshots.new.items }
-{
-    'stale: while let Some(last) = snapshots.last().copied() {
-        if is_current(items, last) {
-            return;
-        }
-        snapshots.pop();
-    }
 }
 
 /// Records a Pin: makes the frame's item, or renews it and removes its explicit pins from the counts by page.

@@ -10,6 +10,7 @@ mod ascending;
 mod explicit_pins;
 mod frame_item;
 mod frames;
+mod free_pages;
 mod makers;
 mod page_list;
 mod page_record;

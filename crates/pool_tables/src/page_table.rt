@@ -1,13 +1,13 @@
-ghost use Rattle.std.specs.Prelude.{◌≡◌, ◌≢◌, ◌+◌, ◌-◌, ◌^◌, ◌<◌, ◌≤◌, ℕ, length, true, false, None, Some, is_some, find, count_by, IfOk};
+ghost use Rattle.std.specs.Prelude.{◌≡◌, ◌≢◌, ◌+◌, ◌-◌, ◌^◌, ◌<◌, ◌≤◌, ℕ, length, true, false, None, Some, is_some, count_by, IfOk};
 ghost use Rattle.journal.specs.Layout.{ascends};
 ghost use Rattle.pool_rules.specs.Numbers.{is_among};
-ghost use Rattle.pool_tables.specs.Changes.{AreUsed, HaveMoreDependents, HaveFewerDependents, HaveMorePins, HaveFewerPins, fewer_dependents, fewer_pins, more_dependents, more_pins, times};
-ghost use Rattle.pool_tables.specs.Eviction.{is_candidate, may_be_evicted, IsFirst};
+ghost use Rattle.pool_tables.specs.Changes.{AreUsed, HaveMoreDependents, HaveFewerDependents, fewer_dependents, fewer_pins, more_dependents, more_pins, times};
+ghost use Rattle.pool_tables.specs.Eviction.{may_be_evicted, IsFirst};
 ghost use Rattle.pool_tables.specs.PageRecords.{record_at, with_record, is_record_held, opening_records, residents, IsUsedBefore};
 
-use crate::ascending::is_among_ascending;
-use crate::page_list::{PageList, PagesLeft};
-use crate::page_record::{MakerId, NO_RECORD, PageRecord, opening_record};
+use crate::free_pages::{first_free, record_of};
+use crate::page_list::PageList;
+use crate::page_record::{MakerId, PageRecord, opening_record};
 use geom_core::Memory;
 use std::alloc::Global;
 use std::marker::Model;
@@ -49,34 +49,6 @@ fn opening_records(alloc: Global, pages: u32, roots: u32) -> Result<Vec<PageReco
             .map(|page| opening_record(roots, page))
             .collect(alloc)?,
     )
-}
-
-/// Returns the page's record; `NO_RECORD` if there is no such page.
-fn record_of(records: &[PageRecord], page: u32) -> PageRecord
-    ensures { result ≡ record_at records.now page }
-{
-    match records.get(page as usize) {
-        Some(record) => *record,
-        None => NO_RECORD,
-    }
-}
-
-/// Returns the first of the pages left that is free and none of the uppers.
-fn first_free(
-    records: &[PageRecord],
-    mut left: PagesLeft<'_>,
-    snapshot: Option<u64>,
-    uppers: &[u32],
-) -> Option<u32>
-    requires ascending { ascends uppers.now ≡ true }
-    ensures { result ≡ find (is_candidate records.now snapshot uppers.now) left.entry }
-{
-    while let Some(page) = left.next() {
-        if record_of(records, page).is_free(snapshot) && !is_among_ascending(uppers, page) {
-            return Some(page);
-        }
-    }
-    None
 }
 
 impl PageTable {
@@ -271,28 +243,6 @@ impl PageTable {
         let mut unpinned = self.get(page);
         unpinned.pins -= 1;
         self.replace(page, unpinned);
-    }
-
-    /// Records that one frame more pins each of the pages explicitly.
-    pub fn pin_pages(&mut self, pages: &[u32])
-        requires page_range { (p : ℕ) → is_among pages.now p ≡ true → p < length self.old.records }
-        requires room { (p : ℕ) → (record_at self.old.records p).pins + times pages.now p < 2 ^ 64 }
-        ensures { HaveMorePins pages.now self.old self.new }
-    {
-        for page in pages {
-            self.pin(*page, 1);
-        }
-    }
-
-    /// Records that one frame less pins each of the pages explicitly.
-    pub fn unpin_pages(&mut self, pages: &[u32])
-        requires page_range { (p : ℕ) → is_among pages.now p ≡ true → p < length self.old.records }
-        requires counted { (p : ℕ) → times pages.now p ≤ (record_at self.old.records p).pins }
-        ensures { HaveFewerPins pages.now self.old self.new }
-    {
-        for page in pages {
-            self.unpin(*page);
-        }
     }
 
     /// Records that one page more depends on the page.

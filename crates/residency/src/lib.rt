@@ -5,17 +5,20 @@
 //! says what a loader may take next, and refuses what the table doesn't allow.
 //!
 //! An event is matched in two places: `rules` (what is allowed) and `events` (what each kind of entry
-//! changes). The tables that the machine reads and changes are those of the crate `pool_tables`.
+//! changes, by the functions of `changes`). The tables that the machine reads and changes are those of the
+//! crate `pool_tables`.
 //!
 //! Layouts, entries and the text of a journal are those of the crate `journal`, and are passed on under
 //! their names.
 #![tactic(auto)]
 
+mod changes;
 mod events;
 mod faults;
 mod nexts;
 #[cfg(test)]
 mod offer_tests;
+mod page_events;
 #[cfg(test)]
 mod pool_tests;
 mod pools;
