@@ -98,5 +98,6 @@ pub fn is_loading(
 pub fn is_waiting(want: QueuedWant, frames: &FrameTable, pages: &PageTable, page: u32) -> bool
     ensures { result ≡ is_waiting (counts_in pages.now.records frames.now) page want }
 {
-    stands(want, frames, pages) && want.page == page && want.settled
+    // Most wants are of other pages: the look-ups of the frame come last.
+    want.page == page && want.settled && stands(want, frames, pages)
 }
