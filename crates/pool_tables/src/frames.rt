@@ -1,7 +1,7 @@
 ghost use Rattle.std.specs.Prelude.{◌≡◌, ◌==◌, ◌+◌, ◌<◌, ◌≤◌, ◌^◌, ◌&&◌, ℕ, length, IfOk, IfSome, OnErr, OnOk, Some, [], true, if◌then◌else◌};
 ghost use Rattle.std.specs.Option.{option_copied, option_map};
 ghost use Rattle.journal.specs.Layout.{ascends};
-ghost use Rattle.pool_tables.specs.FrameItems.{IsLatest, PutsItem, asked_in, asked_item, ended_in, ended_item, installed_item, item_in, item_of, narrowed_item, pin_count, pinned_item, pins_in, settled_item, snapshot_in};
+ghost use Rattle.pool_tables.specs.FrameItems.{IsLatest, PutsItem, asked_item, ended_item, installed_item, item_in, item_of, narrowed_item, pin_count, pinned_item, pins_in, settled_item, snapshot_in};
 ghost use Rattle.pool_tables.specs.PageRecords.{record_at};
 ghost use Rattle.pool_tables.specs.PinMoves.{MovesPins};
 ghost use Rattle.pool_tables.specs.Internal.SnapshotList.{IsSnapshotList};
@@ -167,26 +167,6 @@ impl FrameTable {
         ensures { option_copied result ≡ item_of self.now frame.0 }
     {
         self.items.get(&frame.0)
-    }
-
-    /// Returns the count of entries at the frame's last Settle or Ask; 0 if it has none.
-    pub fn asked_at(&self, frame: FrameId) -> u64
-        ensures { result ≡ asked_in (item_of self.now frame.0) }
-    {
-        match self.items.get(&frame.0) {
-            Some(item) => item.asked_at,
-            None => 0,
-        }
-    }
-
-    /// Returns the count of entries at the frame's end; None if it has not ended.
-    pub fn ended_at(&self, frame: FrameId) -> Option<u64>
-        ensures { result ≡ ended_in (item_of self.now frame.0) }
-    {
-        match self.items.get(&frame.0) {
-            Some(item) => item.ended_at,
-            None => None,
-        }
     }
 
     /// Returns the count of entries at the last Settle or Ask of any frame; 0 if there was none.

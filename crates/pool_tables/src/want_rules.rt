@@ -1,8 +1,9 @@
-ghost use Rattle.std.specs.Prelude.{◌≡◌, ◌&&◌};
+ghost use Rattle.std.specs.Prelude.{◌≡◌, ◌&&◌, nat_le, not};
 ghost use Rattle.std.specs.List.{list_all};
 ghost use Rattle.std.specs.Option.{option_map};
 ghost use Rattle.pool_rules.specs.Next.{is_want_for};
 ghost use Rattle.pool_tables.specs.declared.frame_item.FrameId.{FrameId};
+ghost use Rattle.pool_tables.specs.FrameItems.{asked_in, ended_in, item_of};
 ghost use Rattle.pool_tables.specs.PageRecords.{is_record_held, record_at};
 ghost use Rattle.pool_tables.specs.WantQueue.{can_take_in, counts_in, is_before, is_loading_in, is_takeable_in, is_waiting, stands, want_of};
 
@@ -24,13 +25,24 @@ fn is_before(ended: Option<u64>, count: u64) -> bool
     }
 }
 
+/// Whether the want's frame made no Settle or Ask after it, and did not end before the last one of any frame.
+fn is_still_wanted(want: QueuedWant, frames: &FrameTable) -> bool
+    ensures { result ≡ (nat_le (asked_in (item_of frames.now want.frame.0)) want.made_at
+        && not (is_before (ended_in (item_of frames.now want.frame.0)) frames.now.last_asked)) }
+{
+    match frames.get(want.frame) {
+        Some(item) => {
+            item.asked_at <= want.made_at && !is_before(item.ended_at, frames.last_asked())
+        }
+        None => true,
+    }
+}
+
 /// Whether the want is not over.
 pub fn stands(want: QueuedWant, frames: &FrameTable, pages: &PageTable) -> bool
     ensures { result ≡ stands (counts_in pages.now.records frames.now) want }
 {
-    pages.get(want.page).load_ended_at <= want.made_at
-        && frames.asked_at(want.frame) <= want.made_at
-        && !is_before(frames.ended_at(want.frame), frames.last_asked())
+    pages.get(want.page).load_ended_at <= want.made_at && is_still_wanted(want, frames)
 }
 
 /// Whether the page is resident or being loaded.
