@@ -1,5 +1,5 @@
 -- The tables after an Ask, and what a new request of a frame leaves of its wants.
-use Rattle.std.proofs.Common.{◌≡◌, ◌≢◌, ℕ, ◌+◌, ◌<◌, ◌≤◌, List, [], ◌∷◌, ◌++◌, Bool, true, false, Option, Some, None, is_some, length, map, refl, sym, ap, ◌∙◌, subst, arith}
+use Rattle.std.proofs.Common.{◌≡◌, ℕ, ◌+◌, ◌<◌, List, [], ◌∷◌, ◌++◌, Bool, true, false, Option, Some, None, is_some, map, refl, sym, ap, ◌∙◌, subst, arith}
 use Rattle.std.specs.List.{AllByRecursion}
 use Rattle.std.specs.Option.{option_map}
 use Rattle.journal.specs.declared.entries.Entry.{Entry}
@@ -7,10 +7,8 @@ use Rattle.journal.specs.declared.entries.What.TheVariants.{Ask}
 use Rattle.journal.specs.declared.layouts.Layout.{Layout}
 use Rattle.pool_rules.specs.Rules.{owns}
 use Rattle.pool_rules.specs.State.{State, state_after, wants_of, wants_of_others}
-use Rattle.pool_rules.specs.declared.want.Want.{Want}
-use Rattle.pool_tables.specs.FrameItems.{FrameItems, PutsItem, asked_in, asked_item, ended_in, item_in, item_of, pins_in}
+use Rattle.pool_tables.specs.FrameItems.{FrameItems, PutsItem, asked_in, asked_item, ended_in, item_of, pins_in}
 use Rattle.pool_tables.specs.FrameMeaning.{IsTimelyItem}
-use Rattle.pool_tables.specs.PageRecords.{record_at}
 use Rattle.pool_tables.specs.WantMeaning.{AreWants, IsTimelyWant, IsWaited}
 use Rattle.pool_tables.specs.WantQueue.{WantCounts, WantQueue, closed_up, counts_in, of_page}
 use Rattle.pool_tables.specs.declared.frame_item.FrameItem.{FrameItem}

@@ -1,8 +1,8 @@
 -- Worked examples of a pool's history, computed.
-use Rattle.std.proofs.Common.{◌≡◌, ℕ, true, false, [], ◌∷◌, None, Some, refl}
+use Rattle.std.proofs.Common.{◌≡◌, ℕ, true, false, [], ◌∷◌, None, refl}
 use Rattle.journal.specs.declared.entries.Entry.{Entry}
 use Rattle.journal.specs.declared.entries.What.{What}
-use Rattle.journal.specs.declared.entries.What.TheVariants.{Full, Narrow, Pin, Starve, Stop, Take, Unpin}
+use Rattle.journal.specs.declared.entries.What.TheVariants.{Full, Pin, Stop, Take, Unpin}
 use Rattle.journal.specs.declared.layouts.Layout.{Layout}
 use Rattle.residency.specs.History.{begun, entered, entered_in_spare, needs_no_memory, replayed, with_spare}
 

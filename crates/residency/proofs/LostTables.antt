@@ -1,5 +1,5 @@
 -- The tables after a load that ends without its page.
-use Rattle.std.proofs.Common.{◌≡◌, ◌≢◌, ℕ, ◌+◌, ◌<◌, ◌≤◌, List, [], ◌∷◌, ◌++◌, Bool, true, false, ◌||◌, ⊎_elim, Option, Some, None, is_some, get_or, length, set, refl, sym, ap, ◌∙◌, arith}
+use Rattle.std.proofs.Common.{◌≡◌, ◌≢◌, ℕ, ◌+◌, ◌<◌, ◌≤◌, List, [], ◌∷◌, ◌++◌, true, false, ⊎_elim, Option, Some, None, is_some, get_or, length, set, refl, sym, ap, ◌∙◌, arith}
 use Rattle.std.proofs.lemmas.Bool.{cases_eq}
 use Rattle.journal.specs.Layout.{uppers_of}
 use Rattle.journal.specs.declared.entries.Entry.{Entry}

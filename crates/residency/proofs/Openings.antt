@@ -1,10 +1,10 @@
 -- The tables of a journal without entries.
-use Rattle.std.proofs.Common.{◌≡◌, ◌≤◌, ◌+◌, ℕ, zero, suc, List, [], Bool, true, false, nat_lt, get_or, map, length, refl, sym, ap, ◌∙◌, arith}
+use Rattle.std.proofs.Common.{◌≡◌, ◌≤◌, ◌+◌, ℕ, zero, suc, [], Bool, false, nat_lt, get_or, map, refl, arith}
 use Rattle.std.specs.List.{range_with_len}
 use Rattle.journal.specs.Layout.{InBounds}
 use Rattle.journal.specs.declared.layouts.Layout.{Layout}
-use Rattle.pool_rules.specs.State.{State, state_of}
-use Rattle.pool_tables.specs.PageRecords.{PageRecords, no_record, opening_record, opening_records, record_at}
+use Rattle.pool_rules.specs.State.{state_of}
+use Rattle.pool_tables.specs.PageRecords.{no_record, opening_record, opening_records, record_at}
 use Rattle.pool_tables.specs.WantQueue.{counts_in}
 use Rattle.pool_tables.specs.declared.page_record.PageRecord.{PageRecord}
 use Rattle.pool_tables.proofs.BegunFrames.{AreBegun-new}

@@ -1,12 +1,12 @@
 -- The tables after a Pin: the frame's explicit pins go, and it has a snapshot.
-use Rattle.std.proofs.Common.{◌≡◌, ℕ, ◌+◌, ◌≤◌, List, [], ◌∷◌, ◌++◌, true, not, ◌||◌, Option, Some, None, length, refl, ◌∙◌, arith}
+use Rattle.std.proofs.Common.{◌≡◌, ℕ, ◌+◌, List, [], ◌∷◌, ◌++◌, true, not, ◌||◌, Option, Some, None, length, refl, arith}
 use Rattle.journal.specs.declared.entries.Entry.{Entry}
 use Rattle.journal.specs.declared.entries.What.TheVariants.{Pin}
 use Rattle.journal.specs.declared.layouts.Layout.{Layout}
 use Rattle.pool_rules.specs.Rules.{has_entry, owns}
 use Rattle.pool_rules.specs.State.{State, state_after}
 use Rattle.pool_tables.specs.FrameItems.{FrameItems, PutsItem, asked_in, ended_in, item_of, pinned_item, pins_in}
-use Rattle.pool_tables.specs.PageRecords.{PageRecords, record_at}
+use Rattle.pool_tables.specs.PageRecords.{PageRecords}
 use Rattle.pool_tables.specs.PinMoves.{MovesPins}
 use Rattle.pool_tables.specs.WantMeaning.{IsWaited}
 use Rattle.pool_tables.specs.declared.frame_item.FrameItem.{FrameItem}

@@ -1,6 +1,6 @@
 -- The tables after a Settle or a Narrow: the frame's explicit pins go, others come, and these pages are used.
-use Rattle.std.proofs.Common.{◌≡◌, ◌≢◌, ℕ, ◌+◌, ◌*◌, ◌^◌, ◌<◌, ◌≤◌, List, [], ◌∷◌, ◌++◌, Bool, true, false, ◌&&◌, nat_lt, Option, Some, None, is_some, get_or, length, map, replicate, refl, sym, ap, ◌∙◌, subst, arith}
-use Rattle.std.specs.List.{AllByRecursion, list_all}
+use Rattle.std.proofs.Common.{◌≡◌, ℕ, ◌+◌, ◌*◌, ◌<◌, ◌≤◌, List, [], ◌∷◌, ◌++◌, Bool, true, false, nat_lt, Option, Some, None, is_some, length, map, replicate, refl, sym, ap, ◌∙◌, subst, arith}
+use Rattle.std.specs.List.{AllByRecursion}
 use Rattle.std.specs.Option.{option_map}
 use Rattle.std.proofs.lemmas.Bool.Decides.{nat_tests}
 use Rattle.journal.specs.Layout.{all_below, ascends}
@@ -8,14 +8,13 @@ use Rattle.journal.specs.declared.entries.Entry.{Entry}
 use Rattle.journal.specs.declared.entries.What.TheVariants.{Narrow, Settle}
 use Rattle.journal.specs.declared.layouts.Layout.{Layout}
 use Rattle.pool_rules.specs.Frame.{Frame}
-use Rattle.pool_rules.specs.Numbers.{is_among}
 use Rattle.pool_rules.specs.Rules.{all_resident, owns}
 use Rattle.pool_rules.specs.State.{State, is_resident, state_after, wants_of, wants_of_others}
 use Rattle.pool_rules.proofs.Flags.{place-within}
-use Rattle.pool_rules.proofs.Tests.{all-at_any, and-both, both}
+use Rattle.pool_rules.proofs.Tests.{and-both, both}
 use Rattle.pool_tables.specs.Changes.{AreUsed, times}
-use Rattle.pool_tables.specs.FrameItems.{FrameItems, PutsItem, asked_in, ended_in, item_in, item_of, narrowed_item, pin_count, pins_in, settled_item}
-use Rattle.pool_tables.specs.FrameMeaning.{IsItemOf, IsTimelyItem, frame_at}
+use Rattle.pool_tables.specs.FrameItems.{FrameItems, PutsItem, asked_in, ended_in, item_in, item_of, narrowed_item, pins_in, settled_item}
+use Rattle.pool_tables.specs.FrameMeaning.{IsItemOf, frame_at}
 use Rattle.pool_tables.specs.PageRecords.{PageRecords, record_at}
 use Rattle.pool_tables.specs.PinLists.{flagged, settled_pins}
 use Rattle.pool_tables.specs.PinMoves.{MovesPins}
@@ -42,7 +41,7 @@ use Rattle.residency.specs.Internal.Tables.{installed_at}
 use Rattle.residency.specs.declared.tables.Tables.{Tables}
 use Rattle.residency.proofs.AskTables.{all-appended, all-earlier, timely-item}
 use Rattle.residency.proofs.FrameRecords.{AreFrames-recounted}
-use Rattle.residency.proofs.TablesAt.{AreTablesAt, IsPast, owned-item}
+use Rattle.residency.proofs.TablesAt.{AreTablesAt, owned-item}
 use Rattle.residency.proofs.UnpinTables.{ArePagesOf-moved, moved-field}
 
 -- the records before, without the frame's pins, with its new ones, and after the uses

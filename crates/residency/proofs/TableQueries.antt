@@ -8,9 +8,9 @@ use Rattle.journal.specs.declared.entries.What.TheVariants.{Narrow, Take}
 use Rattle.journal.specs.declared.layouts.Layout.{Layout}
 use Rattle.pool_rules.specs.Next.{first_loading, first_takeable, is_take, next_in}
 use Rattle.pool_rules.specs.Numbers.{holds}
-use Rattle.pool_rules.specs.Rules.{all_resident, allows, any_resident, has_entry, loads, owns, pins}
+use Rattle.pool_rules.specs.Rules.{all_resident, allows, any_resident, loads, owns, pins}
 use Rattle.pool_rules.specs.State.{State, held_count, is_resident, state_of}
-use Rattle.pool_rules.specs.Victim.{is_pinned, victim_after}
+use Rattle.pool_rules.specs.Victim.{victim_after}
 use Rattle.pool_rules.proofs.Lengths.{HasItemAPage-state_of}
 use Rattle.pool_rules.proofs.Soundness.{IsSound-state_of}
 use Rattle.pool_tables.specs.Eviction.{IsFirst, is_in_snapshot, may_be_evicted}

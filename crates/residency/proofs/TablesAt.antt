@@ -1,5 +1,5 @@
 -- What the tables say of a state, field by field, and what is known before an entry.
-use Rattle.std.proofs.Common.{◌≡◌, ℕ, ◌+◌, ◌≤◌, List, [], ◌∷◌, ◌++◌, Bool, true, false, Option, Some, None, is_some, length, refl, sym, ap, ◌∙◌, subst, arith}
+use Rattle.std.proofs.Common.{◌≡◌, ℕ, ◌+◌, ◌≤◌, List, [], ◌∷◌, ◌++◌, true, false, Option, Some, None, length, refl, sym, ap, ◌∙◌, subst, arith}
 use Rattle.std.specs.List.{AllByRecursion}
 use Rattle.journal.specs.Layout.{InBounds}
 use Rattle.journal.specs.declared.entries.Entry.{Entry}
@@ -20,7 +20,7 @@ use Rattle.pool_tables.specs.WantMeaning.{AreWants, IsWaited}
 use Rattle.pool_tables.specs.WantQueue.{counts_in}
 use Rattle.pool_tables.specs.declared.frame_item.FrameItem.{FrameItem}
 use Rattle.pool_tables.proofs.PinCounts.{owns-item}
-use Rattle.residency.specs.Internal.Tables.{AreLegalTables, AreTables, AreTimelyPages, IsFrameTable, IsNext, IsPageTable, IsWantList, installed_at}
+use Rattle.residency.specs.Internal.Tables.{AreLegalTables, AreTables, installed_at}
 use Rattle.residency.specs.declared.tables.Tables.{Tables}
 
 pub record AreTablesAt (layout : Layout) (s : State) (journal : List Entry) (tables : Tables) : Type 0 where

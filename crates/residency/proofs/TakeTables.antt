@@ -1,11 +1,11 @@
 -- The tables after a Take, with a victim and without.
-use Rattle.std.proofs.Common.{◌≡◌, ◌≢◌, ℕ, ◌+◌, ◌^◌, ◌<◌, ◌≤◌, ◌==◌, nat_lt, List, [], ◌∷◌, ◌++◌, Bool, true, false, not, ◌&&◌, ◌||◌, ⊎_elim, inl, inr, Option, Some, None, is_some, get_or, length, set, refl, sym, ap, ◌∙◌, subst, arith}
+use Rattle.std.proofs.Common.{◌≡◌, ℕ, ◌+◌, ◌^◌, ◌<◌, ◌≤◌, ◌==◌, nat_lt, List, [], ◌∷◌, ◌++◌, true, false, not, ◌&&◌, ◌||◌, ⊎_elim, Option, Some, None, is_some, length, refl, ap, ◌∙◌, subst, arith}
 use Rattle.std.proofs.lemmas.Bool.Decides.{nat_tests}
 use Rattle.journal.specs.Layout.{InBounds, uppers_of}
 use Rattle.journal.specs.declared.entries.Entry.{Entry}
 use Rattle.journal.specs.declared.entries.What.TheVariants.{Take}
 use Rattle.journal.specs.declared.layouts.Layout.{Layout}
-use Rattle.pool_rules.specs.Next.{can_take, is_take, next_in}
+use Rattle.pool_rules.specs.Next.{is_take, next_in}
 use Rattle.pool_rules.specs.Numbers.{is_among}
 use Rattle.pool_rules.specs.Rules.{IsLegal, allows, owns}
 use Rattle.pool_rules.specs.State.{State, is_held, is_loading, is_resident, state_after, state_of}
@@ -22,7 +22,7 @@ use Rattle.pool_tables.specs.PoolPages.{ArePagesOf}
 use Rattle.pool_tables.specs.declared.page_record.MakerId.{MakerId}
 use Rattle.pool_tables.specs.declared.page_record.PageRecord.{PageRecord}
 use Rattle.pool_tables.proofs.BegunFrames.{AreBegun-known, AreBegun-same}
-use Rattle.pool_tables.proofs.EntryPages.{ArePagesOf-take, ArePagesOf-take_for, ArePagesOf-victim, HasItemAPage-without, no-root, resident-idle, resident-page, still-absent, taken-absent, without_victim}
+use Rattle.pool_tables.proofs.EntryPages.{ArePagesOf-take, ArePagesOf-take_for, ArePagesOf-victim, resident-idle, resident-page}
 use Rattle.pool_tables.proofs.EventPremises.{IsTimelyTable-later, unpinned-frames}
 use Rattle.pool_tables.proofs.FrameMeanings.{AreFrames-evict}
 use Rattle.pool_tables.proofs.MakerMeanings.{AreMakers-take}

@@ -1,5 +1,5 @@
 -- The tables after an Unpin, and what moves of explicit pins leave.
-use Rattle.std.proofs.Common.{◌≡◌, ◌≢◌, ℕ, ◌+◌, ◌<◌, ◌≤◌, List, [], ◌∷◌, ◌++◌, Bool, true, false, Option, Some, None, is_some, length, refl, sym, ap, ◌∙◌, subst, arith}
+use Rattle.std.proofs.Common.{◌≡◌, ℕ, ◌+◌, ◌≤◌, List, [], ◌∷◌, ◌++◌, true, Option, Some, None, is_some, refl, sym, ap, ◌∙◌, subst, arith}
 use Rattle.std.specs.Option.{option_map}
 use Rattle.journal.specs.declared.entries.Entry.{Entry}
 use Rattle.journal.specs.declared.entries.What.TheVariants.{Unpin}
@@ -12,7 +12,6 @@ use Rattle.pool_tables.specs.PageRecords.{PageRecords, record_at}
 use Rattle.pool_tables.specs.PinMoves.{MovesPins}
 use Rattle.pool_tables.specs.PoolPages.{ArePagesOf, loader_number}
 use Rattle.pool_tables.specs.WantMeaning.{IsWaited}
-use Rattle.pool_tables.specs.WantQueue.{counts_in}
 use Rattle.pool_tables.specs.declared.frame_item.FrameItem.{FrameItem}
 use Rattle.pool_tables.specs.declared.page_record.PageRecord.{PageRecord}
 use Rattle.pool_tables.proofs.BegunFrames.{AreBegun-put}

@@ -1,6 +1,5 @@
-use Rattle.std.proofs.Common.{◌≡◌, ◌∙◌, ◌++◌, ℕ, List, ap, false, map, refl, subst}
+use Rattle.std.proofs.Common.{◌∙◌, ◌++◌, ℕ, List, ap, false, map, refl, subst}
 use Rattle.std.specs.Option.{option_map}
-use Rattle.journal.specs.declared.entries.What.TheVariants.{Ask}
 use Rattle.pool_rules.specs.State.{state_of}
 use Rattle.pool_rules.proofs.Arms.{ask-parts}
 use Rattle.pool_tables.specs.FrameItems.{PutsItem, asked_item, item_of}

@@ -1,25 +1,18 @@
-use Rattle.std.proofs.Common.{◌≡◌, ◌<◌, ◌∙◌, ◌++◌, ◌+◌, ◌&&◌, ℕ, List, true, false, ap, arith, length, map, refl, subst, sym}
+use Rattle.std.proofs.Common.{◌≡◌, ◌∙◌, ◌+◌, ◌&&◌, ℕ, List, true, false, arith, refl, subst, sym}
 use Rattle.std.specs.List.{list_all}
-use Rattle.std.specs.Option.{option_map}
-use Rattle.journal.specs.Layout.{all_below, ascends}
-use Rattle.pool_rules.specs.Numbers.{is_among}
+use Rattle.journal.specs.Layout.{ascends}
 use Rattle.pool_rules.specs.Rules.{owns, pins}
 use Rattle.pool_rules.specs.State.{is_resident, state_of}
 use Rattle.pool_rules.proofs.Allowed.{narrowed-resident}
-use Rattle.pool_rules.proofs.Arms.{settle-parts}
 use Rattle.pool_rules.proofs.Flags.{place-within}
 use Rattle.pool_rules.proofs.Tests.{all-at_any, and-both}
 use Rattle.pool_tables.specs.Changes.{AreUsed, times}
-use Rattle.pool_tables.specs.FrameItems.{PutsItem, item_of, pins_in, settled_item}
-use Rattle.pool_tables.specs.PageRecords.{record_at}
-use Rattle.pool_tables.specs.PinLists.{PinLists, settled_pins}
-use Rattle.pool_tables.specs.WantQueue.{closed_up, counts_in, of_page}
+use Rattle.pool_tables.specs.FrameItems.{item_of, pins_in}
 use Rattle.pool_tables.specs.declared.page_record.PageRecord.{PageRecord}
-use Rattle.pool_tables.specs.declared.queued_want.QueuedWant.{QueuedWant}
 use Rattle.pool_tables.proofs.FlaggedPages.{times-ascending}
 use Rattle.pool_tables.proofs.PageRanges.{record-a_page, used-later}
 use Rattle.pool_tables.proofs.PoolPages.{resident-at, used_of}
-use Rattle.residency.proofs.RepinTables.{AreRepinned, AreTablesAt-narrow, AreTablesAt-settle, pins-room, resident-below}
+use Rattle.residency.proofs.RepinTables.{AreRepinned, AreTablesAt-narrow, pins-room, resident-below}
 use Rattle.residency.proofs.TablesAt.{AreTablesAt-legal, AreTables-push, IsPast-legal, next-entries}
 use Rattle.residency.proofs.UnpinTables.{moved-field, pins-counted}
 use Rattle.residency.proofs.changes.narrow.Goals as goal

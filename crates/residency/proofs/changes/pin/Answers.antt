@@ -1,4 +1,4 @@
-use Rattle.std.proofs.Common.{◌≡◌, Some, ℕ, subst}
+use Rattle.std.proofs.Common.{Some, ℕ, subst}
 use Rattle.pool_rules.specs.State.{state_of}
 use Rattle.pool_tables.specs.FrameItems.{PutsItem, item_of, pinned_item}
 use Rattle.residency.proofs.PinTables.{AreTablesAt-pin}

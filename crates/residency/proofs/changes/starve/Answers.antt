@@ -1,13 +1,12 @@
-use Rattle.std.proofs.Common.{◌≡◌, ◌∷◌, ◌&&◌, ◌+◌, [], true, refl, subst, set, None, nat_le, ℕ}
+use Rattle.std.proofs.Common.{◌≡◌, true, refl, subst, set, None, ℕ}
 use Rattle.journal.specs.Layout.{uppers_of}
 use Rattle.journal.specs.declared.entries.Entry.{Entry}
 use Rattle.journal.specs.declared.entries.What.TheVariants.{Starve}
-use Rattle.pool_rules.specs.Rules.{is_wrong, last_after, loads, rose}
+use Rattle.pool_rules.specs.Rules.{loads}
 use Rattle.pool_rules.specs.State.{state_of}
-use Rattle.pool_rules.proofs.Tests.{and-both}
 use Rattle.pool_tables.specs.Changes.{HaveFewerDependents}
-use Rattle.pool_tables.proofs.MakerMeanings.{AreMakers-fail, AreMakers-other}
-use Rattle.residency.proofs.LostTables.{AreTablesAt-lost, CanLose-loads, ended_load, fewer-loads, loader-item}
+use Rattle.pool_tables.proofs.MakerMeanings.{AreMakers-other}
+use Rattle.residency.proofs.LostTables.{AreTablesAt-lost, CanLose-loads, ended_load, fewer-loads}
 use Rattle.residency.proofs.TablesAt.{AreTablesAt-legal, AreTables-push, IsPast-legal, next-entries}
 use Rattle.residency.proofs.changes.starve.Goals as goal
 

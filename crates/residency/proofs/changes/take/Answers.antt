@@ -1,5 +1,4 @@
-use Rattle.std.proofs.Common.{◌≡◌, ◌∷◌, ◌++◌, [], ℕ, Option, None, Some, refl, subst, sym}
-use Rattle.journal.specs.declared.entries.Entry.{Entry}
+use Rattle.std.proofs.Common.{◌∷◌, ◌++◌, [], ℕ, Option, None, Some, subst, sym}
 use Rattle.journal.specs.declared.entries.What.TheVariants.{Take}
 use Rattle.pool_rules.specs.State.{state_of}
 use Rattle.pool_tables.proofs.EntryPages.{ArePagesOf-victim, HasItemAPage-without, still-absent, taken-absent, without_victim}

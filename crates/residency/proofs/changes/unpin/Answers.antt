@@ -1,4 +1,4 @@
-use Rattle.std.proofs.Common.{◌≡◌, ℕ, subst}
+use Rattle.std.proofs.Common.{ℕ, subst}
 use Rattle.std.specs.Option.{option_map}
 use Rattle.pool_rules.specs.State.{state_of}
 use Rattle.pool_tables.specs.FrameItems.{PutsItem, ended_item, item_of}

@@ -1,6 +1,5 @@
-use Rattle.std.proofs.Common.{◌∙◌, arith, rules}
-use Rattle.std.proofs.lemmas.Grind.{common_steps}
-use Rattle.residency.proofs.TableQueries.{loads-told, owns-told}
+use Rattle.std.proofs.Common.{◌∙◌}
+use Rattle.residency.proofs.TableQueries.{owns-told}
 use Rattle.residency.proofs.rules.allows.Goals as goal
 
 pub returns-in-Pin : goal.returns-in-Pin

@@ -1,4 +1,4 @@
-use Rattle.std.proofs.Common.{◌∙◌, sym, ap}
+use Rattle.std.proofs.Common.{◌∙◌, sym}
 use Rattle.residency.proofs.TableQueries.{narrow-none, narrow-told}
 use Rattle.residency.proofs.rules.allows_narrow.Goals as goal
 
