@@ -4,13 +4,13 @@ use Rattle.std.specs.Prelude.{nat_le, IsErr, IfErr, IfSome}
 use Rattle.std.specs.Result.{IsErrAnd}
 use Rattle.journal.specs.Grammar.{journal_of}
 use Rattle.pool_rules.specs.Rules.{first_refused, IsLegal}
-use Rattle.residency.specs.History.{History}
+use Rattle.residency.specs.History.{History, replayed}
 use Rattle.journal.specs.declared.entries.Entry.{Entry}
 use Rattle.journal.specs.declared.journals.Journal as journals
 use Rattle.journal.specs.declared.journals.JournalFault.{JournalFault}
 use Rattle.journal.specs.declared.journals.JournalFault.TheVariants as journal
-use Rattle.residency.specs.declared.pools.ReplayFault.{ReplayFault}
-use Rattle.residency.specs.declared.pools.ReplayFault.TheVariants as replay
+use Rattle.residency.specs.declared.faults.ReplayFault.{ReplayFault}
+use Rattle.residency.specs.declared.faults.ReplayFault.TheVariants as replay
 use Rattle.span_io.specs.declared.texts.TextFault.{TextFault}
 use Rattle.span_io.specs.declared.texts.TextFault.TheVariants as text
 use Rattle.geode_tool.specs.declared.commands.Command.TheVariants.{Audit}
@@ -63,9 +63,9 @@ audit_answer-illegal text read place le e refused =
     audit_answer-read text read le e ∙ ap (λ (refused : Option ℕ). counted refused (length read.entries)) refused
 
 -- a journal whose entries are all allowed, and the pool after them
-pub audit_answer-replayed : (text : List ℕ) (read : journals.Journal) (pool : History) (entries journal : List Entry) → length text ≤ 2 ^ 26 → journal_of text ≡ Ok read → entries ≡ read.entries → IsLegal read.layout entries → pool ≡ record { layout = read.layout; journal = entries } → journal ≡ pool.journal → audit_answer text ≡ Ok (length journal)
-audit_answer-replayed text read pool entries journal le spelt same legal replayed kept =
-    let all : journal ≡ read.entries = kept ∙ ap (λ (h : History). h.journal) replayed ∙ same in
+pub audit_answer-replayed : (text : List ℕ) (read : journals.Journal) (pool : History) (entries journal : List Entry) → length text ≤ 2 ^ 26 → journal_of text ≡ Ok read → entries ≡ read.entries → IsLegal read.layout entries → pool ≡ replayed read.layout entries → journal ≡ pool.journal → audit_answer text ≡ Ok (length journal)
+audit_answer-replayed text read pool entries journal le spelt same legal is kept =
+    let all : journal ≡ read.entries = kept ∙ ap (λ (h : History). h.journal) is ∙ same in
     audit_answer-legal text read le spelt (rw same at legal)
     ∙ ap (λ (l : List Entry). Ok (length l)) (sym all)
 

@@ -3,8 +3,8 @@ use Rattle.obj_source.specs.declared.faults.ObjFault.{ObjFault}
 use Rattle.obj_source.specs.declared.faults.ObjFault.TheVariants as obj
 use Rattle.journal.specs.declared.journals.JournalFault.{JournalFault}
 use Rattle.journal.specs.declared.journals.JournalFault.TheVariants as journal
-use Rattle.residency.specs.declared.pools.ReplayFault.{ReplayFault}
-use Rattle.residency.specs.declared.pools.ReplayFault.TheVariants as replay
+use Rattle.residency.specs.declared.faults.ReplayFault.{ReplayFault}
+use Rattle.residency.specs.declared.faults.ReplayFault.TheVariants as replay
 use Rattle.span_io.specs.declared.texts.TextFault.{TextFault}
 use Rattle.span_io.specs.declared.texts.TextFault.TheVariants as text
 use Rattle.geode_tool.specs.declared.faults.Fault.{Fault}

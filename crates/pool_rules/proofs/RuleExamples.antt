@@ -5,10 +5,11 @@ use Rattle.geom_core.specs.declared.digests.Digest32.{Digest32}
 use Rattle.journal.specs.declared.entries.Entry.{Entry}
 use Rattle.journal.specs.declared.entries.Spoilt.TheVariants.{Digest, Grammar, Short}
 use Rattle.journal.specs.declared.entries.What.{What}
-use Rattle.journal.specs.declared.entries.What.TheVariants.{Pin, Settle, Ask, Narrow, Unpin, Take, Install, Fail, Spoil, Full, Stop}
+use Rattle.journal.specs.declared.entries.What.TheVariants.{Pin, Settle, Ask, Narrow, Unpin, Take, Install, Fail, Spoil, Starve, Full, Stop}
 use Rattle.journal.specs.declared.layouts.Layout.{Layout}
 use Rattle.pool_rules.proofs.Examples.{entry, digest, shared, asked_shared, queued, flat, loading_1, other_ends, asked_1}
-use Rattle.pool_rules.specs.Rules.{first_refused, is_allowed, is_entry_of, is_wrong, last_after}
+use Rattle.pool_rules.specs.Rules.{first_refused, is_allowed, is_entry_of, is_wrong, last_after, owns, rose}
+use Rattle.pool_rules.specs.State.{state_of}
 
 -- Two pages, of which neither stands on the other.
 abbrev two : Layout
@@ -29,6 +30,16 @@ other_maker = refl
 pub own_maker : first_refused two (entry 0 (Pin 0) ∷ entry 0 (Unpin 0) ∷ []) ≡ None
 own_maker = refl
 
+-- of two makers each owns its own frame
+pub owns_own : map (λ by. map (owns (state_of shared queued) by) (0 ∷ 1 ∷ [])) (0 ∷ 1 ∷ 2 ∷ [])
+    ≡ (true ∷ false ∷ []) ∷ (false ∷ true ∷ []) ∷ (false ∷ false ∷ []) ∷ []
+owns_own = refl
+
+-- the first entry that is refused
+pub refused_first : first_refused two (entry 0 (Pin 0) ∷ entry 1 (Unpin 0) ∷ entry 0 (Starve 1) ∷ entry 0 (Unpin 0)
+    ∷ []) ≡ Some 1
+refused_first = refl
+
 -- the second stop
 pub stop_again : first_refused two (entry 0 Stop ∷ entry 0 Stop ∷ []) ≡ Some 1
 stop_again = refl
@@ -37,15 +48,23 @@ pub stop_once : first_refused two (entry 0 (Pin 0) ∷ entry 0 Stop ∷ []) ≡ 
 stop_once = refl
 
 -- a failed read raises the count of faults
-pub fail_unraised : first_refused two (entry 0 (Pin 0) ∷ entry 0 (Settle 0 (0 ∷ []) (1 ∷ [])) ∷ entry 0 (Take (Some 0) 1 None) ∷ entry 0 (Fail 1 3 3) ∷ []) ≡ Some 3
+pub fail_unraised : first_refused two (entry 0 (Pin 0) ∷ entry 0 (Settle 0 (0 ∷ []) (1 ∷ [])) ∷ entry 0
+    (Take (Some 0) 1 None) ∷ entry 0 (Fail 1 3 3) ∷ []) ≡ Some 3
 fail_unraised = refl
 
-pub fail_raised : first_refused two (entry 0 (Pin 0) ∷ entry 0 (Settle 0 (0 ∷ []) (1 ∷ [])) ∷ entry 0 (Take (Some 0) 1 None) ∷ entry 0 (Fail 1 3 4) ∷ []) ≡ None
+pub fail_raised : first_refused two (entry 0 (Pin 0) ∷ entry 0 (Settle 0 (0 ∷ []) (1 ∷ [])) ∷ entry 0
+    (Take (Some 0) 1 None) ∷ entry 0 (Fail 1 3 4) ∷ []) ≡ None
 fail_raised = refl
 
 -- both counts stay at the greatest
-pub fail_greatest : first_refused two (entry 0 (Pin 0) ∷ entry 0 (Settle 0 (0 ∷ []) (1 ∷ [])) ∷ entry 0 (Take (Some 0) 1 None) ∷ entry 0 (Fail 1 (2 ^ 64 - 1) (2 ^ 64 - 1)) ∷ []) ≡ None
+pub fail_greatest : first_refused two (entry 0 (Pin 0) ∷ entry 0 (Settle 0 (0 ∷ []) (1 ∷ [])) ∷ entry 0
+    (Take (Some 0) 1 None) ∷ entry 0 (Fail 1 (2 ^ 64 - 1) (2 ^ 64 - 1)) ∷ []) ≡ None
 fail_greatest = refl
+
+-- from the greatest no other count is a rise
+pub fail_from_greatest : map (λ after. rose (2 ^ 64 - 1) after) (0 ∷ 5 ∷ (2 ^ 64 - 2) ∷ (2 ^ 64 - 1) ∷ [])
+    ≡ false ∷ false ∷ false ∷ true ∷ []
+fail_from_greatest = refl
 
 -- a read that failed raised the count to 4, and the page is being loaded again
 abbrev failed : List Entry
@@ -59,8 +78,14 @@ fail_below_last = refl
 pub fail_from_last : first_refused two (failed ++ entry 0 (Fail 1 4 5) ∷ []) ≡ None
 fail_from_last = refl
 
+-- the count may have risen since
+pub fail_above_last : first_refused two (failed ++ entry 0 (Fail 1 6 7) ∷ []) ≡ None
+fail_above_last = refl
+
 -- the last count is the maker's own, and 0 of one that had no Fail
-pub last_of_makers : map (λ by. last_after by (entry 0 (Fail 1 2 3) ∷ entry 0 (Fail 1 3 6) ∷ entry 1 (Fail 2 8 9) ∷ entry 0 Stop ∷ [])) (0 ∷ 1 ∷ 2 ∷ []) ≡ 6 ∷ 9 ∷ 0 ∷ []
+pub last_of_makers : map (λ by. last_after by
+    (entry 0 (Fail 1 2 3) ∷ entry 0 (Fail 1 3 6) ∷ entry 1 (Fail 2 8 9) ∷ entry 0 Stop ∷ [])) (0 ∷ 1 ∷ 2 ∷ [])
+    ≡ 6 ∷ 9 ∷ 0 ∷ []
 last_of_makers = refl
 
 -- Lists of pages: 0 and 1 of four pages are resident, and frame 0 pins page 0 alone.
@@ -83,12 +108,18 @@ settle_absent = refl
 pub settle_there : may (Settle 0 (0 ∷ []) (1 ∷ 2 ∷ [])) ≡ false
 settle_there = refl
 
+pub settle_beyond : may (Settle 0 [] (3 ∷ 4 ∷ [])) ≡ false
+settle_beyond = refl
+
 -- an Ask is for pages that there are, none of them resident
 pub ask_missing : may (Ask 0 (2 ∷ 3 ∷ [])) ≡ true
 ask_missing = refl
 
 pub ask_there : may (Ask 0 (1 ∷ 2 ∷ [])) ≡ false
 ask_there = refl
+
+pub ask_falling : map may (Ask 0 (3 ∷ 2 ∷ []) ∷ Ask 0 (2 ∷ 2 ∷ []) ∷ []) ≡ false ∷ false ∷ []
+ask_falling = refl
 
 pub ask_beyond : may (Ask 0 (3 ∷ 4 ∷ [])) ≡ false
 ask_beyond = refl
@@ -108,7 +139,8 @@ pub narrow_unpinned : may (Narrow 0 (0 ∷ 1 ∷ [])) ≡ false
 narrow_unpinned = refl
 
 -- nor is it pinned by frame 0 where frame 1 pins it
-pub narrow_other : map (λ frame. is_allowed flat (asked_1 ++ entry 0 (Pin 1) ∷ []) (entry 0 (Narrow frame (0 ∷ 1 ∷ [])))) (0 ∷ 1 ∷ []) ≡ false ∷ true ∷ []
+pub narrow_other : map (λ frame. is_allowed flat (asked_1 ++ entry 0 (Pin 1) ∷ [])
+    (entry 0 (Narrow frame (0 ∷ 1 ∷ [])))) (0 ∷ 1 ∷ []) ≡ false ∷ true ∷ []
 narrow_other = refl
 
 -- Makers: what frame 0 does is entered by its owner, maker 0.
@@ -120,6 +152,11 @@ frame_owner = refl
 
 pub frame_other : map (λ what. is_allowed flat asked_1 (entry 1 what)) of_frame ≡ replicate 5 false
 frame_other = refl
+
+-- a Stop changes nothing for frames, and another one may begin
+pub frame_stopped : map (λ what. is_allowed flat (asked_1 ++ entry 1 Stop ∷ []) (entry 0 what)) (Pin 7 ∷ of_frame)
+    ≡ replicate 6 true
+frame_stopped = refl
 
 -- Takes: what comes next for frame 0 is to take page 1 into a free slot.
 abbrev take_shared : ℕ → What → Option ℕ
@@ -135,8 +172,13 @@ take_other = refl
 pub take_for_all : take_shared 1 (Take None 1 None) ≡ None
 take_for_all = refl
 
+-- of the page that comes next
+pub take_later : map (λ frame. take_shared 0 (Take frame 2 None)) (None ∷ Some 0 ∷ []) ≡ Some 2 ∷ Some 2 ∷ []
+take_later = refl
+
 -- page 1 is next for all, but not for frame 0, which wants page 2
-pub take_unwanted : map (λ frame. is_allowed shared queued (entry 0 (Take frame 1 None))) (None ∷ Some 0 ∷ []) ≡ true ∷ false ∷ []
+pub take_unwanted : map (λ frame. is_allowed shared queued (entry 0 (Take frame 1 None))) (None ∷ Some 0 ∷ [])
+    ≡ true ∷ false ∷ []
 take_unwanted = refl
 
 -- a frame isn't full while a slot is free
@@ -152,15 +194,25 @@ full_own = refl
 pub full_other : full_one (entry 1 (Full 0) ∷ []) ≡ Some 2
 full_other = refl
 
+-- nor is a frame that wants nothing
+pub full_unwanted : full_one (entry 1 (Pin 1) ∷ entry 1 (Full 1) ∷ []) ≡ Some 3
+full_unwanted = refl
+
 -- after a Stop nothing is taken, and nobody is told of a full pool
-pub take_stopped : map (λ frame. first_refused shared (asked_shared ++ entry 0 Stop ∷ entry 0 (Take frame 1 None) ∷ [])) (None ∷ Some 0 ∷ []) ≡ Some 3 ∷ Some 3 ∷ []
+pub take_stopped : map (λ frame. first_refused shared (asked_shared ++ entry 0 Stop ∷ entry 0 (Take frame 1 None) ∷ []))
+    (None ∷ Some 0 ∷ []) ≡ Some 3 ∷ Some 3 ∷ []
 take_stopped = refl
 
 pub full_stopped : full_one (entry 0 Stop ∷ entry 0 (Full 0) ∷ []) ≡ Some 3
 full_stopped = refl
 
--- but what is being loaded may come
-pub install_stopped : first_refused shared (asked_shared ++ entry 0 (Take (Some 0) 1 None) ∷ entry 0 Stop ∷ entry 0 (Install 1 digest) ∷ []) ≡ None
+-- but what is being loaded may come, or its load end otherwise
+pub ends_stopped : map (λ what. first_refused flat (loading_1 ++ entry 0 Stop ∷ entry 2 what ∷ []))
+    (Install 1 digest ∷ other_ends) ≡ replicate 4 None
+ends_stopped = refl
+
+pub install_stopped : first_refused shared
+    (asked_shared ++ entry 0 (Take (Some 0) 1 None) ∷ entry 0 Stop ∷ entry 0 (Install 1 digest) ∷ []) ≡ None
 install_stopped = refl
 
 -- Ends of loads: maker 2 loads page 1.
@@ -201,8 +253,10 @@ pub spoilt_lengths : map (λ got. is_wrong (Short got)) (0 ∷ 65535 ∷ 65536 �
 spoilt_lengths = refl
 
 -- Entries of frame 3: those that name it, so no Install of page 3, and no Take of it for all.
-pub entries_of_frame : map (is_entry_of 3) (Pin 3 ∷ Unpin 3 ∷ Take (Some 3) 1 None ∷ Full 3 ∷ []) ≡ true ∷ true ∷ true ∷ true ∷ []
+pub entries_of_frame : map (is_entry_of 3) (Pin 3 ∷ Unpin 3 ∷ Take (Some 3) 1 None ∷ Full 3 ∷ [])
+    ≡ true ∷ true ∷ true ∷ true ∷ []
 entries_of_frame = refl
 
-pub entries_of_others : map (is_entry_of 3) (Pin 2 ∷ Take (Some 2) 3 None ∷ Take None 3 None ∷ Install 3 digest ∷ []) ≡ false ∷ false ∷ false ∷ false ∷ []
+pub entries_of_others : map (is_entry_of 3) (Pin 2 ∷ Take (Some 2) 3 None ∷ Take None 3 None ∷ Install 3 digest ∷ [])
+    ≡ false ∷ false ∷ false ∷ false ∷ []
 entries_of_others = refl

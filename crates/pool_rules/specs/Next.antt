@@ -1,6 +1,7 @@
 -- What a loader may do next, for a frame or for all.
-use Rattle.std.specs.Prelude.{◌==◌, ◌&&◌, ℕ, List, Bool, true, false, not, find, nat_lt, if◌then◌else◌, Option, None, Some}
+use Rattle.std.specs.Prelude.{◌==◌, ◌&&◌, ℕ, List, Bool, true, false, not, find, nat_eq, nat_lt, if◌then◌else◌, Option, None, Some}
 use Rattle.std.specs.List.{list_all}
+use Rattle.std.specs.Option.{option_eq}
 use Rattle.journal.specs.declared.entries.Entry.{Entry}
 use Rattle.pool_rules.specs.declared.want.Want.{Want}
 use Rattle.journal.specs.declared.layouts.Layout.{Layout}
@@ -62,15 +63,9 @@ next_in layout s frame = next_of layout s frame (first_takeable layout s frame)
 abbrev pub next_after : Layout → List Entry → Option ℕ → Next
 next_after layout journal frame = next_in layout (state_of layout journal) frame
 
--- whether both are none, or both the same number
-abbrev pub same_victim : Option ℕ → Option ℕ → Bool
-same_victim None None = true
-same_victim (Some a) (Some b) = a == b
-same_victim _ _ = false
-
 -- whether the answer is to take this page for this victim
 abbrev pub is_take : Next → ℕ → Option ℕ → Bool
-is_take (Take p v) page victim = (p == page) && same_victim v victim
+is_take (Take p v) page victim = (p == page) && option_eq nat_eq v victim
 is_take _ page victim = false
 
 abbrev pub is_full : Next → Bool

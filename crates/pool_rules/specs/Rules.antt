@@ -10,6 +10,8 @@ use Rattle.journal.specs.declared.entries.What.{What}
 use Rattle.journal.specs.declared.entries.What.TheVariants.{Pin, Settle, Ask, Narrow, Unpin, Take, Install, Fail, Spoil, Starve, Full, Stop}
 use Rattle.journal.specs.declared.layouts.Layout.{Layout}
 use Rattle.journal.specs.Layout.{ascends, all_below}
+use Rattle.pool_rules.specs.Events.{frame_of}
+use Rattle.pool_rules.specs.Numbers.{holds}
 use Rattle.pool_rules.specs.Next.{next_in, is_take, is_full}
 use Rattle.pool_rules.specs.State.{State, is_resident, state_of}
 
@@ -22,23 +24,12 @@ abbrev pub pins : State → ℕ → ℕ → Bool
 pins s frame page = list_any (λ f. (f.number == frame) && slice_index_or f.pins page false) s.frames
 
 -- whether this maker is loading the page
-abbrev pub is_maker : Option ℕ → ℕ → Bool
-is_maker None by = false
-is_maker (Some maker) by = maker == by
-
 abbrev pub loads : State → ℕ → ℕ → Bool
-loads s by page = is_maker (slice_index_or s.loading page None) by
+loads s by page = holds (slice_index_or s.loading page None) by
 
--- whether the frame has an entry: one that names it
+-- whether it is an entry of the frame: one that names it
 abbrev pub is_entry_of : ℕ → What → Bool
-is_entry_of f (Pin frame) = frame == f
-is_entry_of f (Settle frame pages missing) = frame == f
-is_entry_of f (Ask frame pages) = frame == f
-is_entry_of f (Narrow frame pages) = frame == f
-is_entry_of f (Unpin frame) = frame == f
-is_entry_of f (Take (Some frame) page victim) = frame == f
-is_entry_of f (Full frame) = frame == f
-is_entry_of f _ = false
+is_entry_of frame what = holds (frame_of what) frame
 
 abbrev pub has_entry : ℕ → List Entry → Bool
 has_entry frame journal = list_any (λ e. is_entry_of frame e.what) journal

@@ -1,5 +1,5 @@
 -- What holds after every legal journal.
-use Rattle.std.specs.Prelude.{◌≡◌, ◌<◌, ◌≤◌, ℕ, IsTrue, length}
+use Rattle.std.specs.Prelude.{◌<◌, ◌≤◌, ℕ, IsTrue}
 use Rattle.journal.specs.declared.layouts.Layout.{Layout}
 use Rattle.journal.specs.Layout.{is_upper}
 use Rattle.pool_rules.specs.State.{State, is_resident, is_loading, is_held, held_count}
@@ -17,6 +17,3 @@ pub record IsSound (layout : Layout) (s : State) : Type 0 where
   pub within_slots : held_count s ≤ layout.slots
   -- each pinned page is resident
   pub pins_stay : (page : ℕ) → IsTrue (is_pinned s page) → IsTrue (is_resident s page)
-  -- the lists by page have one item for each page
-  pub flag_a_page : length s.resident ≡ layout.pages
-  pub maker_a_page : length s.loading ≡ layout.pages

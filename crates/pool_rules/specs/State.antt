@@ -1,9 +1,11 @@
 -- The state of the pool after a journal: a fold over its entries, the oldest first.
 use Rattle.std.specs.Prelude.{◌==◌, ◌+◌, ◌&&◌, ◌||◌, ℕ, Bool, true, false, not, List, [], ◌∷◌, ◌++◌, length, map, filter, fold, nat_lt, replicate, if◌then◌else◌, Option, None, Some, is_some, count_by, slice_set, slice_index_or}
 use Rattle.std.specs.List.{list_any}
+use Rattle.std.specs.Option.{option_map_or}
 use Rattle.journal.specs.declared.entries.Entry.{Entry}
 use Rattle.journal.specs.declared.entries.What.{What}
-use Rattle.journal.specs.declared.entries.What.TheVariants.{Pin, Settle, Ask, Narrow, Unpin, Take, Install, Fail, Spoil, Starve, Stop}
+use Rattle.journal.specs.declared.entries.What.TheVariants.{Pin, Settle, Ask, Narrow, Unpin, Take, Install, Stop}
+use Rattle.pool_rules.specs.Events.{page_ended}
 use Rattle.pool_rules.specs.Frame.{Frame}
 use Rattle.pool_rules.specs.declared.want.Want.{Want}
 use Rattle.journal.specs.declared.layouts.Layout.{Layout}
@@ -21,7 +23,7 @@ pub record State : Type 0 where
   pub wants : List Want
   -- by page: when it was last used, as the number of entries up to and including the last Settle, Narrow or
   -- Install that has it; 0 if none has
-  pub named : List ℕ
+  pub last_used : List ℕ
   -- whether the journal has a Stop
   pub stopped : Bool
   -- how many entries there are
@@ -60,7 +62,7 @@ initial_state layout = record {
   loading = replicate layout.pages None;
   frames = [];
   wants = [];
-  named = replicate layout.pages 0;
+  last_used = replicate layout.pages 0;
   stopped = false;
   entries = 0;
 }
@@ -74,11 +76,7 @@ resident_after _ resident = resident
 -- Loading: Take adds its page with its maker, the end of a load removes it
 abbrev pub loading_after : ℕ → What → List (Option ℕ) → List (Option ℕ)
 loading_after by (Take frame page victim) loading = slice_set loading page (Some by)
-loading_after by (Install page digest) loading = slice_set loading page None
-loading_after by (Fail page before after) loading = slice_set loading page None
-loading_after by (Spoil page why) loading = slice_set loading page None
-loading_after by (Starve page) loading = slice_set loading page None
-loading_after by _ loading = loading
+loading_after by what loading = option_map_or (λ page. slice_set loading page None) (page_ended what) loading
 
 -- the frames with the one of its number replaced by this frame, or this frame appended
 abbrev pub replace_frame : Frame → List Frame → List Frame
@@ -119,21 +117,17 @@ wants_without page wants = filter (λ w. not (w.page == page)) wants
 abbrev pub wants_after : State → What → List Want
 wants_after s (Settle frame pages missing) = wants_of_others s frame ++ wants_of frame true missing
 wants_after s (Ask frame pages) = wants_of_others s frame ++ wants_of frame false pages
-wants_after s (Install page digest) = wants_without page s.wants
-wants_after s (Fail page before after) = wants_without page s.wants
-wants_after s (Spoil page why) = wants_without page s.wants
-wants_after s (Starve page) = wants_without page s.wants
-wants_after s _ = s.wants
+wants_after s what = option_map_or (λ page. wants_without page s.wants) (page_ended what) s.wants
 
-abbrev pub name_at : ℕ → List ℕ → List ℕ → List ℕ
-name_at place pages named = fold (λ all page. slice_set all page place) named pages
+abbrev pub set_last_used : ℕ → List ℕ → List ℕ → List ℕ
+set_last_used place pages last_used = fold (λ all page. slice_set all page place) last_used pages
 
 -- Last use: Settle and Narrow use their pages, Install uses its page
-abbrev pub named_after : State → What → List ℕ
-named_after s (Settle frame pages missing) = name_at (s.entries + 1) pages s.named
-named_after s (Narrow frame pages) = name_at (s.entries + 1) pages s.named
-named_after s (Install page digest) = name_at (s.entries + 1) (page ∷ []) s.named
-named_after s _ = s.named
+abbrev pub last_used_after : State → What → List ℕ
+last_used_after s (Settle frame pages missing) = set_last_used (s.entries + 1) pages s.last_used
+last_used_after s (Narrow frame pages) = set_last_used (s.entries + 1) pages s.last_used
+last_used_after s (Install page digest) = set_last_used (s.entries + 1) (page ∷ []) s.last_used
+last_used_after s _ = s.last_used
 
 abbrev pub stopped_after : What → Bool → Bool
 stopped_after Stop stopped = true
@@ -146,7 +140,7 @@ state_after_event s by what = record {
   loading = loading_after by what s.loading;
   frames = frames_after s by what;
   wants = wants_after s what;
-  named = named_after s what;
+  last_used = last_used_after s what;
   stopped = stopped_after what s.stopped;
   entries = s.entries;
 }

@@ -24,14 +24,14 @@ is_evictable layout s page candidate =
     && (not (is_stood_on layout s candidate) && not (is_upper layout candidate page))))
 
 -- when the page was last used, as the number of entries up to and including that use; 0 if it never was
-abbrev pub named_of : State → ℕ → ℕ
-named_of s page = slice_index_or s.named page 0
+abbrev pub last_used_of : State → ℕ → ℕ
+last_used_of s page = slice_index_or s.last_used page 0
 
 -- of two candidates the one that was used less recently, of equals the second
 abbrev pub less_recently_used : State → Option ℕ → ℕ → Option ℕ
 less_recently_used s None candidate = Some candidate
 less_recently_used s (Some best) candidate =
-    if nat_lt (named_of s best) (named_of s candidate) then Some best else Some candidate
+    if nat_lt (last_used_of s best) (last_used_of s candidate) then Some best else Some candidate
 
 -- the victim: the least recently used of the evictable pages, of equals the greatest number
 abbrev pub victim_for : Layout → State → ℕ → Option ℕ
@@ -43,7 +43,7 @@ victim_after layout journal page = victim_for layout (state_of layout journal) p
 
 -- whether p was used less recently than q, or as recently and has no smaller number
 abbrev pub IsLessRecent : State → ℕ → ℕ → Type 0
-IsLessRecent s p q = (named_of s p < named_of s q) ⊎ ((named_of s p ≡ named_of s q) × (q ≤ p))
+IsLessRecent s p q = (last_used_of s p < last_used_of s q) ⊎ ((last_used_of s p ≡ last_used_of s q) × (q ≤ p))
 
 -- what a victim is: it is evictable, and the least recently used of all evictable pages
 pub record IsVictim (layout : Layout) (s : State) (page victim : ℕ) : Type 0 where

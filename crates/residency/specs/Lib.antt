@@ -1,4 +1,2 @@
 pub mod History
-pub mod Kept
-pub mod Recalled
-pub mod Stalest
+pub mod Internal

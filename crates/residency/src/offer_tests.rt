@@ -1,12 +1,8 @@
-use crate::accounts::Account;
-use crate::rules::allows;
-use crate::{Entry, read_journal};
-use geom_core::Memory;
-use pool_state::Plan;
-use std::alloc::Global;
+use crate::{Next, Pool, read_journal};
+use std::alloc::{AllocError, Global};
 use std::test::Fail;
 
-/// Page 0 is the root page and stands below pages 1 and 2, page 1 below page 3.
+/// Page 0 is the root page and an upper of the pages 1 and 2, page 1 is an upper of page 3.
 const TEXT: &str = "\
 layout 4 1 2
 upper 1 0
@@ -20,70 +16,65 @@ upper 3 1
 0 install 1 00000000000000000000000000000000000000000000000000000000000000aa
 1 unpin 2
 0 settle 1 pages 0 missing 2 3
+0 pin 1
+0 narrow 1 pages 0
 0 take - 2 1
 0 starve 2
 0 unpin 1
 ";
 
-/// How many tickets stand among those whose page can be taken, and among those whose page is being
-/// loaded, after each of the entries.
-const COUNTS: [(usize, usize); 11] = [
-    (0, 0),
-    (2, 0),
-    (2, 0),
-    (3, 0),
-    (1, 2),
-    (3, 0),
-    (3, 0),
-    (2, 0),
-    (0, 1),
-    (0, 0),
-    (0, 0),
+/// What a loader may do after each of the entries, for frame 1, for frame 2 and for all frames.
+const OFFERS: [&str; 13] = [
+    "nothing, nothing, nothing",
+    "take 1 -, nothing, take 1 -",
+    "take 1 -, nothing, take 1 -",
+    "take 1 -, take 1 -, take 1 -",
+    "full 2, busy 1, full 2",
+    "full 2, full 3, full 2",
+    "full 2, full 3, full 2",
+    "take 2 1, nothing, take 2 1",
+    "full 2, nothing, full 2",
+    "take 2 1, nothing, take 2 1",
+    "busy 2, nothing, nothing",
+    "nothing, nothing, nothing",
+    "nothing, nothing, nothing",
 ];
 
-/// How many stand among each now.
-fn counts(account: &Account) -> (usize, usize) {
-    (account.offers.takeable.len(), account.offers.loading.len())
+/// Returns the text of what a loader may do.
+fn offer(alloc: Global, next: Next) -> Result<String, AllocError> {
+    match next {
+        Next::Take {
+            page,
+            victim: Some(victim),
+        } => format!(in alloc; "take {page} {victim}"),
+        Next::Take { page, victim: None } => format!(in alloc; "take {page} -"),
+        Next::Full { page } => format!(in alloc; "full {page}"),
+        Next::Busy { page } => format!(in alloc; "busy {page}"),
+        Next::Nothing => format!(in alloc; "nothing"),
+    }
 }
 
-/// Enters an entry, and where memory is refused enters it again. None where it isn't allowed, or where
-/// the refusal left other counts than before.
-fn counts_after(
-    alloc: Global,
-    layout: &Plan,
-    account: &mut Account,
-    entry: &Entry,
-) -> Result<Option<(usize, usize)>, Memory> {
-    if !allows(layout, account, entry) || account.standing.entries == u64::MAX {
-        return Ok(None);
-    }
-    let before = counts(account);
-    if account.enter(alloc, layout, entry).is_err() {
-        if counts(account) != before || account.standing.entries == u64::MAX {
-            return Ok(None);
-        }
-        account.enter(alloc, layout, entry)?;
-    }
-    Ok(Some(counts(account)))
+/// Returns the text of what a loader may do for frame 1, for frame 2 and for all frames.
+fn offers(alloc: Global, pool: &Pool) -> Result<String, AllocError> {
+    let first = offer(alloc, pool.next_for(Some(1)))?;
+    let second = offer(alloc, pool.next_for(Some(2)))?;
+    let all = offer(alloc, pool.next_for(None))?;
+    format!(in alloc; "{first}, {second}, {all}")
 }
 
 #[test]
-fn tickets_that_do_not_belong_go(rt: HostRuntime) -> Result<(), Fail> {
+fn loaders_are_offered_what_is_wanted(rt: HostRuntime) -> Result<(), Fail> {
     let Ok(journal) = read_journal(rt.alloc(), TEXT.as_bytes()) else {
         return Err("no journal".into());
     };
-    let Ok(layout) = Plan::of(rt.alloc(), &journal.layout) else {
-        return Err("no plan".into());
+    let Ok(mut pool) = Pool::begin(rt.alloc(), journal.layout) else {
+        return Err("no pool".into());
     };
-    let Ok(mut account) = Account::opening(rt.alloc(), &layout) else {
-        return Err("no account".into());
-    };
-    for (place, entry) in journal.entries.as_slice().iter().enumerate() {
-        let counts = counts_after(rt.alloc(), &layout, &mut account, entry);
-        let Ok(counts) = counts else {
-            return Err("no memory".into());
-        };
-        assert_eq!(rt; counts.as_ref(), COUNTS.get(place), "{place}");
+    for (entry, expected) in journal.entries.into_vec().into_iter().zip(OFFERS) {
+        assert!(rt; pool.step(rt.alloc(), entry).is_ok(), "{expected}");
+        let found = offers(rt.alloc(), &pool)?;
+        assert_eq!(rt; found.as_str(), expected);
     }
+    assert_eq!(rt; pool.journal().len(), OFFERS.len());
     Ok(())
 }

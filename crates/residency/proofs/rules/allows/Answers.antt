@@ -1,40 +1,29 @@
-use Rattle.std.proofs.Common.{refl, ◌∙◌}
-use Rattle.pool_state.specs.Shown.{shown}
-use Rattle.pool_rules.proofs.Allowed.{take-journal}
+use Rattle.std.proofs.Common.{◌∙◌}
+use Rattle.residency.proofs.TableQueries.{owns-told}
 use Rattle.residency.proofs.rules.allows.Goals as goal
 
-pub returns-then-owns : goal.returns-then-owns
-returns-then-owns c = λ journal entries frames recalls agrees ranks offered.
-    let owned = c.if-owns.ensures entries frames agrees in
-    rw c.in-Pin.is (rw (← owned) c.if-owns.true)
-
-pub returns-else-owns : goal.returns-else-owns
-returns-else-owns c = λ journal entries frames recalls agrees ranks offered.
-    let owned = c.if-owns.ensures entries frames agrees in
-    let had = c.has_entry.ensures journal recalls in
-    rw c.in-Pin.is (rw (← owned, ← had) refl)
+pub returns-in-Pin : goal.returns-in-Pin
+returns-in-Pin c = λ journal past. rw c.in-Pin.is (c.allows_pin.ensures c.args.layout.now journal past.tables)
 
 pub returns-in-Settle : goal.returns-in-Settle
-returns-in-Settle c = λ journal entries frames recalls agrees ranks offered.
-    rw (c.in-Settle.is, ← c.as_slice-in-Settle.ensures, ← c.as_slice.ensures) (c.allows_settle.ensures entries frames agrees)
+returns-in-Settle c = λ journal past.
+    rw (c.in-Settle.is, ← c.as_slice-in-Settle.ensures, ← c.as_slice.ensures) (c.allows_settle.ensures journal past.tables)
 
 pub returns-in-Ask : goal.returns-in-Ask
-returns-in-Ask c = λ journal entries frames recalls agrees ranks offered.
-    rw (c.in-Ask.is, ← c.as_slice-in-Ask.ensures) (c.allows_ask.ensures entries frames agrees)
+returns-in-Ask c = λ journal past.
+    rw (c.in-Ask.is, ← c.as_slice-in-Ask.ensures) (c.allows_ask.ensures journal past.tables)
 
 pub returns-in-Narrow : goal.returns-in-Narrow
-returns-in-Narrow c = λ journal entries frames recalls agrees ranks offered.
-    rw (c.in-Narrow.is, ← c.as_slice-in-Narrow.ensures) (c.allows_narrow.ensures entries frames agrees)
+returns-in-Narrow c = λ journal past.
+    rw (c.in-Narrow.is, ← c.as_slice-in-Narrow.ensures) (c.allows_narrow.ensures c.args.layout.now journal past.tables)
 
 pub returns-in-Unpin : goal.returns-in-Unpin
-returns-in-Unpin c = λ journal entries frames recalls agrees ranks offered.
-    rw c.in-Unpin.is (c.owns-in-Unpin.ensures entries frames agrees)
+returns-in-Unpin c = λ journal past.
+    rw c.in-Unpin.is (c.owns.ensures ∙ owns-told c.args.layout.now journal c.args.tables.now c.args.entry.now.by c.in-Unpin.frame past.tables)
 
 pub returns-in-Take : goal.returns-in-Take
-returns-in-Take c = λ journal entries frames recalls agrees ranks offered.
-    let s = shown c.args.account.now.standing frames in
-    rw c.in-Take.is (c.allows_take.ensures entries frames agrees ranks offered ∙ take-journal c.args.layout.now s journal c.args.entry.now.by c.in-Take.frame c.in-Take.page c.in-Take.victim)
+returns-in-Take c = λ journal past.
+    rw (c.in-Take.is, ← c.frame_id.ensures) (c.allows_take.ensures journal past)
 
 pub returns-in-Full : goal.returns-in-Full
-returns-in-Full c = λ journal entries frames recalls agrees ranks offered.
-    rw c.in-Full.is (c.allows_full.ensures entries frames agrees ranks offered)
+returns-in-Full c = λ journal past. rw c.in-Full.is (c.allows_full.ensures journal past)

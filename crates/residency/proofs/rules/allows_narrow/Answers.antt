@@ -1,19 +1,12 @@
-use Rattle.std.proofs.Common.{arith, rules}
-use Rattle.std.proofs.lemmas.Grind.{common_steps}
+use Rattle.std.proofs.Common.{◌∙◌, sym}
+use Rattle.residency.proofs.TableQueries.{narrow-none, narrow-told}
 use Rattle.residency.proofs.rules.allows_narrow.Goals as goal
 
-pub returns-then-not-owns : goal.returns-then-not-owns
-returns-then-not-owns c = λ entries frames agrees.
-    let owned = c.owns.ensures entries frames agrees in
-    first_of (cc, search rules, grind (arith, common_steps))
+pub returns-in-Some : goal.returns-in-Some
+returns-in-Some c = λ layout journal are.
+    c.can_narrow.ensures
+    ∙ narrow-told layout journal c.args.tables.now c.args.by.0 c.args.frame.0 c.args.pages.now c.in-Some.item.now are (sym c.in-Some.ensures)
 
-pub returns-then-ascends : goal.returns-then-ascends
-returns-then-ascends c = λ entries frames agrees.
-    let owned = c.owns.ensures entries frames agrees in
-    let all = c.all_pinned.ensures entries frames agrees in
-    first_of (cc, search rules, grind (arith, common_steps))
-
-pub returns-else-ascends : goal.returns-else-ascends
-returns-else-ascends c = λ entries frames agrees.
-    let owned = c.owns.ensures entries frames agrees in
-    first_of (cc, search rules, grind (arith, common_steps))
+pub returns-in-None : goal.returns-in-None
+returns-in-None c = λ layout journal are.
+    narrow-none layout journal c.args.tables.now c.args.by.0 c.args.frame.0 c.args.pages.now are (sym c.in-None.ensures)

@@ -1,3 +1,0 @@
-pub mod Leaf
-pub mod Parking
-pub mod Recent

@@ -1,4 +1,0 @@
-pub mod Examples
-pub mod Offering
-pub mod Pairs
-pub mod Touched

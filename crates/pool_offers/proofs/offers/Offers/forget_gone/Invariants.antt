@@ -1,9 +1,0 @@
-use Rattle.journal.specs.declared.layouts.Layout.{Layout}
-use Rattle.pool_offers.specs.Offer.{AreOffered}
-use Rattle.pool_rules.specs.State.{State}
-use Rattle.pool_offers.proofs.offers.Offers.forget_gone.Given as goal
-
--- what is kept stays right
-abbrev pub invariant-loop-ticket : goal.invariant-loop-ticket
-invariant-loop-ticket l =
-    (layout : Layout) (s : State) → AreOffered layout s l.wants.queue l.fn.self → AreOffered layout s l.wants.queue l.self

@@ -1,0 +1,3 @@
+pub mod Links
+pub mod SnapshotList
+pub mod UseOrder

@@ -1,0 +1,15 @@
+pub mod Changes
+pub mod Eviction
+pub mod FrameItems
+pub mod FrameMeaning
+pub mod FrameQueries
+pub mod Internal
+pub mod ListedPages
+pub mod MakerItems
+pub mod MakerMeaning
+pub mod PageRecords
+pub mod PoolPages
+pub mod PinLists
+pub mod PinMoves
+pub mod WantMeaning
+pub mod WantQueue
