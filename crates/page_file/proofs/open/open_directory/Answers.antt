@@ -5,7 +5,8 @@ use Rattle.page_codec.specs.Spelling.{directory_length, page_at}
 use Rattle.page_file.specs.Internal.Seen.{StandsAt, ReadRefused, JudgedTo, Decides, StepRefused}
 use Rattle.page_file.specs.Judging.{directory_judged}
 use Rattle.page_file.specs.Opening.{directory_opened}
-use Rattle.page_file.proofs.Steps.{header-unread, header-refused, directory-unread, directory-refused, directory-decides, read-same}
+use Rattle.page_file.proofs.Steps.{header-unread, header-refused, directory-unread, directory-refused, directory-decides}
+use Rattle.page_file.proofs.StepRefusals.{read-same}
 use Rattle.page_file.proofs.Texts.{handed, if_ok, if_err, told-same}
 use Rattle.page_file.proofs.open.open_directory.Goals as goal
 

@@ -5,7 +5,8 @@ use Rattle.page_codec.specs.Spelling.{page_at}
 use Rattle.page_file.specs.Internal.Seen.{Answers, StepRefused}
 use Rattle.page_file.specs.Opening.{directory_opened, pages_opened, root_pages}
 use Rattle.page_file.specs.Refusals.{Opens, Refuses}
-use Rattle.page_file.proofs.Steps.{step-opening, step-same, opening-stops, opening-goes-on, complete-from}
+use Rattle.page_file.proofs.StepRefusals.{step-opening, step-same}
+use Rattle.page_file.proofs.Steps.{opening-stops, opening-goes-on, complete-from}
 use Rattle.page_file.proofs.Texts.{handed}
 use Rattle.page_file.proofs.open.open_pages.Goals as goal
 

@@ -1,6 +1,6 @@
 use Rattle.std.proofs.Common.{◌≡◌, ◌≤◌, ◌+◌, ◌++◌, ℕ, List, length, Option, IfSome, sym, subst, ap, ◌∙◌, arith, length-append}
 use Rattle.page_file.specs.Internal.Seen.{StandsAt, ReadRefused}
-use Rattle.page_file.proofs.Steps.{read-more}
+use Rattle.page_file.proofs.StepRefusals.{read-more}
 use Rattle.page_file.proofs.Texts.{handed, if_both, stands-join}
 use Rattle.page_file.proofs.reads.read_text.Goals as goal
 
