@@ -1,15 +1,17 @@
+ghost use Rattle.std.specs.Prelude.{◌<◌};
+
 use dag_core::{CheckFault, ClusterHead, ClusterHeads, Group, Groups, Heads};
 use geom_core::{Cube, Memory, Pt};
 use std::alloc::Global;
 use std::process::ExitCode;
 use std::time::Instant;
 
-/// Groups on a page.
+/// Groups on a page of the heads that are checked.
 const GROUPS_PER_PAGE: u32 = 1_000;
 
 /// Times `check` on the heads of a chain of this many groups, and prints the counts and the time.
 pub fn time_check(rt: &HostRuntime, groups: u32) -> ExitCode {
-    let Ok(heads) = chain(rt.alloc(), groups) else {
+    let Ok(heads) = chain(rt.alloc(), groups, 1, GROUPS_PER_PAGE) else {
         return ExitCode::FAILURE;
     };
     if !heads.is_in_range() {
@@ -38,29 +40,38 @@ pub fn time_check(rt: &HostRuntime, groups: u32) -> ExitCode {
     }
 }
 
-/// Returns the heads of groups of one cluster each. The cluster of each group but the last was made by the next one,
-/// and the first group is terminal.
-fn chain(alloc: Global, groups: u32) -> Result<Heads, Memory> {
+/// Returns the heads of a chain of groups, with this many clusters in each. The clusters of each group but the last
+/// were made by the next one, and the first group is terminal.
+pub fn chain(
+    alloc: Global,
+    groups: u32,
+    members: u32,
+    groups_per_page: u32,
+) -> Result<Heads, Memory>
+    requires page_size { 0 < groups_per_page }
+{
     let mut list = Vec::new(alloc);
     let mut clusters = Vec::new(alloc);
     for g in 0..groups {
-        list.push(group(g))?;
-        clusters.push(ClusterHead {
-            made: if groups - g > 1 { Some(g + 1) } else { None },
-            tris: 1,
-        })?;
+        list.push(group(g, members, g / groups_per_page))?;
+        for _member in 0..members {
+            clusters.push(ClusterHead {
+                made: if groups - g > 1 { Some(g + 1) } else { None },
+                tris: 1,
+            })?;
+        }
     }
     Ok(Heads {
         groups: Groups::of(list),
         clusters: ClusterHeads::of(clusters),
-        pages: groups / GROUPS_PER_PAGE + u32::from(groups % GROUPS_PER_PAGE > 0),
+        pages: groups / groups_per_page + u32::from(groups % groups_per_page > 0),
         roots: 1,
         sources: 1,
     })
 }
 
 /// Returns the group of this number.
-fn group(g: u32) -> Group {
+fn group(g: u32, members: u32, page: u32) -> Group {
     let origin = Pt { x: 0, y: 0, z: 0 };
     Group {
         error: if g == 0 { 0 } else { 4 },
@@ -69,8 +80,8 @@ fn group(g: u32) -> Group {
             lo: origin,
             hi: origin,
         },
-        page: g / GROUPS_PER_PAGE,
-        first: g,
-        count: 1,
+        page,
+        first: g.saturating_mul(members),
+        count: members,
     }
 }

@@ -9,6 +9,9 @@
 //! `geode_bench heads N` reads nothing. It checks the heads of a DAG of N groups of one cluster each, a thousand groups
 //! to a page, in which each group but the first is made into the one before, and prints the time that the check took.
 //!
+//! `geode_bench cuts N` makes a thousand needs, cuts and uppers on such heads with eight clusters a group and a page a
+//! group, and `geode_bench need N` one need with one cluster a group and ten groups a page; both print their times.
+//!
 //! `geode_bench pages N [SIZE]` reads nothing. It makes a DAG of N pages of leaves of SIZE triangles, or of 126,
 //! thirteen of which fill a page. It makes the index of the pages, encodes, decodes and digests each page, and prints
 //! the processor time of each of the four.
@@ -16,12 +19,14 @@
 
 ghost use Rattle.geom_core.specs.Limits.{AreGridTriangles};
 
+mod cuts;
 mod flat_dag;
 mod heads;
 mod pages;
 mod rims;
 mod works;
 
+use cuts::{time_cuts, time_need};
 use geom_core::limits::STEPS_PER_UNIT;
 use geom_core::{Memory, Tri};
 use heads::time_check;
@@ -34,15 +39,21 @@ use std::process::ExitCode;
 use works::{Work, count_clusters, count_edges, count_rim, sort_edges};
 
 fn main(rt: HostRuntime) -> ExitCode {
-    if let Some(groups) = group_count(&rt) {
+    if let Some(groups) = group_count(&rt, "heads") {
         return time_check(&rt, groups);
     }
     if let Some(layout) = layout_of(&rt) {
         return time_pages(&rt, layout);
     }
+    if let Some(groups) = group_count(&rt, "cuts") {
+        return time_cuts(&rt, groups);
+    }
+    if let Some(groups) = group_count(&rt, "need") {
+        return time_need(&rt, groups);
+    }
     let Some(work) = work_of(&rt) else {
         let _ = eprintln!(rt;
-            "geode_bench: one of read, sort, edges, rims, joined-rims, clusters, heads N, or pages N"
+            "geode_bench: one of read, sort, edges, rims, joined-rims, clusters, heads N, cuts N, need N, or pages N"
         );
         return ExitCode::from(2);
     };
@@ -57,12 +68,12 @@ fn main(rt: HostRuntime) -> ExitCode {
     }
 }
 
-/// The number of groups, if the command line is `heads` and a number.
-fn group_count(rt: &HostRuntime) -> Option<u32> {
+/// The number of groups, if the command line is this work and a number.
+fn group_count(rt: &HostRuntime, work: &str) -> Option<u32> {
     let mut words = env::args(rt).ok()?.skip(1);
-    let is_heads = words.next()?.as_str() == "heads";
+    let is_work = words.next()?.as_str() == work;
     let groups = words.next()?.parse::<u32>().ok()?;
-    if is_heads { Some(groups) } else { None }
+    if is_work { Some(groups) } else { None }
 }
 
 /// The work that the command line asks for.

@@ -1,6 +1,6 @@
 use crate::{two_squares, two_squares_heads};
 use dag_core::{CheckFault, ClusterHead, ClusterHeads, Counts, Group, Groups, Heads};
-use geom_core::{Cube, Memory, Pt};
+use geom_core::{Cube, Lens, Memory, Nums, Pt};
 use std::alloc::Global;
 use std::test::Fail;
 
@@ -272,6 +272,49 @@ fn the_two_squares_are_checked(rt: HostRuntime) -> Result<(), Fail> {
             assert!(rt; homes == [0, 0, 1, 2]);
         }
         Err(_) => return Err("refused".into()),
+    }
+    Ok(())
+}
+
+/// A lens whose eye is the middle of square 1.
+fn lens_of(focal: u32, tolerance: u32) -> Lens {
+    Lens {
+        eye: point(4, 4),
+        focal,
+        tolerance,
+    }
+}
+
+/// The numbers, each with a space before it.
+fn text_of(alloc: Global, numbers: &Nums) -> Result<String, Memory> {
+    let mut text = String::new(alloc);
+    for number in numbers.as_slice() {
+        text.push_str(&format!(in alloc; " {number}")?)?;
+    }
+    Ok(text)
+}
+
+#[test]
+fn cuts_follow_the_lens_and_the_pages(rt: HostRuntime) -> Result<(), Fail> {
+    let heads = two_squares_heads(rt.alloc()).map_err(|_| "memory")?;
+    // focal length and tolerance; what is needed; the cut with these pages resident
+    let cases = [
+        (1, 0, " 0 1 2", " 2 3"),
+        (1, 5, " 0 1 2", " 2 3"),
+        (1, 6, " 0 1", " 1 2"),
+        (1, 63, " 0 1", " 1 2"),
+        (1, 64, " 0", " 0 1"),
+        (1, 65_535, " 0", " 0 1"),
+        (4_096, 65_535, " 0 1", " 1 2"),
+    ];
+    for (focal, tolerance, need, cut) in cases {
+        let lens = lens_of(focal, tolerance);
+        let needed = heads.need(rt.alloc(), &lens).map_err(|_| "memory")?;
+        let told = text_of(rt.alloc(), &needed).map_err(|_| "memory")?;
+        assert_eq!(rt; told.as_str(), need);
+        let drawn = heads.cut(rt.alloc(), &lens, &needed).map_err(|_| "memory")?;
+        let told = text_of(rt.alloc(), &drawn).map_err(|_| "memory")?;
+        assert_eq!(rt; told.as_str(), cut);
     }
     Ok(())
 }
