@@ -1,11 +1,10 @@
 -- One page more is used, or has a dependent more or less: the steps of loops over pages.
-use Rattle.std.proofs.Common.{◌≡◌, ◌≢◌, ℕ, suc, ◌+◌, ◌-◌, ◌<◌, ◌≤◌, ◌==◌, List, ◌∷◌, Bool, true, false, cond, ◌||◌, inl, inr, ⊎_elim, get_or, set, length, take, drop, refl, sym, ap, ◌∙◌, subst, arith, eq-eqb, length-set}
+use Rattle.std.proofs.Common.{◌≡◌, ◌≢◌, ℕ, suc, ◌+◌, ◌-◌, ◌<◌, ◌≤◌, ◌==◌, List, ◌∷◌, Bool, true, false, cond, inl, inr, ⊎_elim, get_or, set, length, take, drop, refl, sym, ap, ◌∙◌, subst, arith, eq-eqb, length-set}
 use Rattle.std.proofs.Math.Seq.{drop-cons}
 use Rattle.std.proofs.lemmas.Bool.{cases_eq}
 use Rattle.std.proofs.lemmas.List.Sums.{count_by_more_yes, count_by_more_no, sum_by-take-le}
 use Rattle.journal.specs.Layout.{ascends}
 use Rattle.pool_rules.specs.Numbers.{is_among}
-use Rattle.pool_rules.proofs.Tests.{or-left}
 use Rattle.pool_tables.specs.PageRecords.{PageRecords, record_at, with_record, IsUsedBefore}
 use Rattle.pool_tables.specs.declared.page_record.PageRecord.{PageRecord}
 use Rattle.pool_tables.specs.Changes.{used_if, AreUsed, times, AreChanged, more_dependents, fewer_dependents, HaveMoreDependents, HaveFewerDependents}
@@ -15,36 +14,16 @@ use Rattle.pool_tables.proofs.UseOrder.{record-same, record-other}
 
 -- ---- pages that are used
 
--- use changes no residency
-pub used-resident : (b : Bool) (count : ℕ) (r : PageRecord) → (used_if b count r).resident ≡ r.resident
-used-resident true count r = refl
-used-resident false count r = refl
-
 -- used before the page, if it was used with it as a greater page
 used-before : (b : Bool) (count page p : ℕ) (r : PageRecord) → r.last_used < count → (b ≡ true → page < p) →
     IsUsedBefore count page p (used_if b count r).last_used
 used-before true count page p r less greater = inr (refl, greater refl)
 used-before false count page p r less greater = inl less
 
-used-again : (b : Bool) (count : ℕ) (r now : PageRecord) → now ≡ used_if b count r →
-    record now { last_used = count } ≡ used_if true count r
-used-again true count r now e = ap (λ (x : PageRecord). record x { last_used = count }) e
-used-again false count r now e = ap (λ (x : PageRecord). record x { last_used = count }) e
-
 -- the pages from place k on are that one and those after it
 from-place : (pages : List ℕ) (k : ℕ) → k < length pages → drop k pages ≡ get_or pages k 0 ∷ drop (k + 1) pages
 from-place pages k within = let e : suc k ≡ k + 1 = omega arith in drop-cons pages k 0 within
     ∙ ap (λ m. get_or pages k 0 ∷ drop m pages) e
-
-among-here : (pages : List ℕ) (k : ℕ) → k < length pages → is_among (drop k pages) (get_or pages k 0) ≡ true
-among-here pages k within = subst (λ ps. is_among ps (get_or pages k 0) ≡ true) (sym (from-place pages k within))
-    (or-left (get_or pages k 0 == get_or pages k 0) (is_among (drop (k + 1) pages) (get_or pages k 0))
-    (eq-eqb (get_or pages k 0) (get_or pages k 0) refl))
-
-among-other : (pages : List ℕ) (k p : ℕ) → k < length pages → p ≢ get_or pages k 0 →
-    is_among (drop k pages) p ≡ is_among (drop (k + 1) pages) p
-among-other pages k p within other = ap (λ ps. is_among ps p) (from-place pages k within)
-    ∙ ap (λ b. b || is_among (drop (k + 1) pages) p) (ne-eqb (get_or pages k 0) p (λ e. other (sym e)))
 
 -- all others were used before it, or with it and are greater
 pub before-step : (count k page : ℕ) (pages : List ℕ) (old now : PageRecords) → k < length pages →

@@ -1,14 +1,12 @@
 -- One item of the table of frames is written, made, or not there.
-use Rattle.std.proofs.Common.{◌≡◌, ℕ, ◌+◌, ◌==◌, nat_cmp, List, true, false, cond, Option, Some, None, refl, sym, ap, ◌∙◌, subst, arith}
+use Rattle.std.proofs.Common.{◌≡◌, ℕ, ◌+◌, ◌==◌, nat_cmp, cond, Option, Some, None, refl, sym, ap, ◌∙◌, subst, arith}
 use Rattle.std.proofs.lemmas.Bool.Decides.{nat_tests}
 use Rattle.std.proofs.lemmas.Map.Entries.{sum_by-set_value, sum_by-insert_entry}
 use Rattle.std.specs.BTreeMap.{BTreeMap, get, insert_entry, is_at, IsOrdered, Updates, WritesThrough}
 use Rattle.std.specs.Cmp.{nat_cmp_total}
 use Rattle.std.specs.List.{sum_by}
-use Rattle.std.specs.List.Sorted.{IsStrictlySortedBy}
-use Rattle.std.specs.Map.{keys_of, values_of}
+use Rattle.std.specs.Map.{values_of}
 use Rattle.std.specs.Option.{option_map, unwrap_or}
-use Rattle.pool_rules.proofs.Tests.{same-eqb}
 use Rattle.pool_tables.specs.Changes.{times}
 use Rattle.pool_tables.specs.FrameItems.{PutsItem, item_in, pin_count, pins_in}
 use Rattle.pool_tables.specs.PinLists.{pinned_pages}
@@ -41,18 +39,6 @@ PutsItem-inserted frame old new w ordered ordered_now updates inserted = record 
   items = λ n. updates.0 n ∙ ap (λ b. cond b (Some w) (item_in old.entries n)) (is_at-eqb frame n);
   pins = λ page. ap (λ k. pin_count new.entries page + k) (sym (unwrapped page (item_in old.entries frame))) ∙ (ap (λ es. sum_by (pins_of page) (values_of es) + unwrap_or (option_map (pins_of page) (item_in old.entries frame)) 0) inserted ∙ sum_by-insert_entry (pins_of page) nat_cmp_total old.entries frame w ordered);
   ordered = ordered_now;
-}
-
--- nothing is written where there is no item
-pub PutsItem-absent : (frame : ℕ) (items : List (ℕ × FrameItem)) → IsStrictlySortedBy nat_cmp (keys_of items)
-    → item_in items frame ≡ None → PutsItem frame None items items
-PutsItem-absent frame items ordered absent = record {
-  items = λ n. elim (frame == n) as (λ b. (frame == n) ≡ b → item_in items n ≡ cond b None (item_in items n)) [
-    | true ↦ λ e. let same = same-eqb frame n e in ap (item_in items) (sym same) ∙ absent
-    | false ↦ λ e. refl
-  ] refl;
-  pins = λ page. rw absent refl;
-  ordered = ordered;
 }
 
 -- the item of a frame is changed where it is

@@ -1,5 +1,5 @@
 -- What the count of explicit pins of a page tells, and which pages some live frame pins.
-use Rattle.std.proofs.Common.{◌≡◌, ℕ, zero, suc, ◌*◌, length, ◌+◌, ◌<◌, ◌≤◌, ◌==◌, nat_cmp, nat_lt, List, [], ◌∷◌, Bool, true, false, not, cond, ◌&&◌, ◌||◌, ⊎_elim, Option, Some, None, get_or, refl, sym, ap, ◌∙◌, subst, arith, eq-eqb, is_some}
+use Rattle.std.proofs.Common.{◌≡◌, ℕ, ◌*◌, length, ◌+◌, ◌<◌, ◌≤◌, ◌==◌, nat_cmp, nat_lt, List, [], ◌∷◌, Bool, true, false, cond, ◌&&◌, ◌||◌, ⊎_elim, Option, Some, None, get_or, refl, sym, ap, ◌∙◌, subst, arith, eq-eqb, is_some}
 use Rattle.std.proofs.lemmas.Bool.Decides.{nat_tests}
 use Rattle.std.proofs.lemmas.List.Sums.{sum_by-cons}
 use Rattle.std.specs.BTreeMap.{is_at}
@@ -20,9 +20,7 @@ use Rattle.pool_tables.specs.Eviction.{is_in_snapshot}
 use Rattle.pool_tables.specs.FrameItems.{IsLatest, item_in, pin_count, snapshot_in}
 use Rattle.pool_tables.specs.FrameMeaning.{AreFrames, IsFrameItem, IsItemOf, frame_at}
 use Rattle.pool_tables.specs.FrameQueries.{is_live_in, is_owned, pins_page}
-use Rattle.pool_tables.specs.PageRecords.{record_at}
 use Rattle.pool_tables.specs.PinLists.{PinLists, flagged, pinned_pages}
-use Rattle.pool_tables.specs.declared.page_record.PageRecord.{PageRecord}
 use Rattle.pool_tables.specs.declared.frame_item.FrameItem.{FrameItem}
 use Rattle.pool_tables.proofs.FlaggedPages.{among-times, times-append, times-ascending, times-flagged}
 use Rattle.pool_tables.proofs.FrameMeanings.{at-frame}
@@ -245,21 +243,3 @@ pins-item s installed_at items n page are live =
     pick None (Some item) is alive = let no : is_live_in (Some item) ≡ false = rw is.ended refl in cc
     pick (Some f) None is alive = absurd is
     pick (Some f) (Some item) is alive = is.pins page
-
--- a resident page whose record counts its explicit pins is free of frames if no live frame pins it
-pub unpinned-record : (s : State) (items : List (ℕ × FrameItem)) (records : List PageRecord) (latest : Option ℕ) (page : ℕ)
-    → AreFrames s.resident (λ p. (record_at records p).installed_at) s.frames items → IsLatest items latest
-    → is_resident s page ≡ true → (record_at records page).pins ≡ pin_count items page
-    → (((record_at records page).pins == 0) && not (is_in_snapshot latest (record_at records page).installed_at))
-    ≡ not (is_pinned s page)
-unpinned-record s items records latest page are is_latest resident count =
-    ap (λ n. (n == 0) && not (is_in_snapshot latest (record_at records page).installed_at)) count
-    ∙ (neither (pin_count items page) (is_in_snapshot latest (record_at records page).installed_at)
-    ∙ ap not (sym (is_pinned-counted s (λ p. (record_at records p).installed_at) items latest page are is_latest resident)))
-  where
-    neither : (n : ℕ) (b : Bool) → ((n == 0) && not b) ≡ not (nat_lt 0 n || b)
-    neither zero b = refl
-    neither (suc n) b =
-        let some : nat_lt 0 (suc n) ≡ true = grind (arith, nat_tests) in
-        let other : (suc n == 0) ≡ false = grind (arith, nat_tests) in
-        rw (some, other) refl
