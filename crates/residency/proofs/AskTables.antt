@@ -1,5 +1,6 @@
 -- The tables after an Ask, and what a new request of a frame leaves of its wants.
-use Rattle.std.proofs.Common.{◌≡◌, ℕ, ◌+◌, ◌<◌, List, [], ◌∷◌, ◌++◌, Bool, true, false, Option, Some, None, is_some, map, refl, sym, ap, ◌∙◌, subst, arith}
+use Rattle.std.proofs.Common.{◌≡◌, ℕ, ◌+◌, ◌<◌, List, [], ◌∷◌, ◌++◌, Bool, true, false, Option, Some, None, is_some}
+use Rattle.std.proofs.Common.{map, refl, sym, ap, ◌∙◌, subst, arith}
 use Rattle.std.specs.List.{AllByRecursion}
 use Rattle.std.specs.Option.{option_map}
 use Rattle.journal.specs.declared.entries.Entry.{Entry}
@@ -66,7 +67,8 @@ pub AreTablesAt-ask : (layout : Layout) (s : State) (journal : List Entry) (tabl
     wants.wants ≡ closed_up (counts_in tables.pages.records frames) tables.wants.wants ++ map (of_page like) pages →
     AreTablesAt layout (state_after s (record { by = by; what = Ask frame pages }))
     (journal ++ record { by = by; what = Ask frame pages } ∷ []) (record tables { frames = frames; wants = wants })
-AreTablesAt-ask layout s journal tables by frame pages frames wants like are owned puts last of_frame no_settle made list =
+AreTablesAt-ask layout s journal tables by frame pages frames wants like are owned puts last of_frame no_settle made
+    list =
     let e : Entry = record { by = by; what = Ask frame pages } in
     let count = s.entries + 1 in
     let records = tables.pages.records in
@@ -100,7 +102,8 @@ AreTablesAt-ask layout s journal tables by frame pages frames wants like are own
           (IsTimelyItem-asked s.entries item.0 (are.timely.items frame item.0 item.1)))
           (omega (arith, last));
       begun = AreBegun-put journal e frame now tables.frames.items frames.items are.begun refl (ap is_some now_is) puts;
-      wants = subst (λ (ws : List QueuedWant). AreWants count counts ws (wants_of_others s frame ++ wants_of frame false pages))
+      wants = subst (λ (ws : List QueuedWant). AreWants count counts ws
+          (wants_of_others s frame ++ wants_of frame false pages))
           (sym list)
           (subst (λ (b : Bool). AreWants count counts all (wants_of_others s frame ++ wants_of frame b pages)) no_settle
           wants_now);

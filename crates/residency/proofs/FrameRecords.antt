@@ -8,7 +8,8 @@ use Rattle.pool_tables.specs.FrameMeaning.{AreFrames, IsItemOf, frame_at}
 use Rattle.pool_tables.specs.PinLists.{pinned_pages}
 use Rattle.pool_tables.specs.declared.frame_item.FrameItem.{FrameItem}
 
-pub AreFrames-recounted : (resident : List Bool) (was now : ℕ → ℕ) (frames : List Frame) (items : List (ℕ × FrameItem)) →
+pub AreFrames-recounted : (resident : List Bool) (was now : ℕ → ℕ) (frames : List Frame)
+    (items : List (ℕ × FrameItem)) →
     ((p : ℕ) → now p ≡ was p) → AreFrames resident was frames items → AreFrames resident now frames items
 AreFrames-recounted resident was now frames items same are = record {
   distinct = are.distinct;
@@ -28,5 +29,6 @@ AreFrames-recounted resident was now frames items same are = record {
       named_ascend = is.named_ascend;
       missing_ascend = is.missing_ascend;
       pins = λ p. is.pins p
-          ∙ ap (λ k. is_among (pinned_pages item.pins) p || (get_or resident p false && is_in_snapshot item.snapshot k)) (sym (same p));
+          ∙ ap (λ k. is_among (pinned_pages item.pins) p ||
+          (get_or resident p false && is_in_snapshot item.snapshot k)) (sym (same p));
     }

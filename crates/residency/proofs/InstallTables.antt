@@ -1,5 +1,7 @@
 -- The tables after an Install: the frames that wait for the page pin it, and it is resident.
-use Rattle.std.proofs.Common.{◌≡◌, ◌≢◌, ℕ, ◌+◌, ◌*◌, ◌<◌, ◌≤◌, ◌==◌, List, [], ◌∷◌, ◌++◌, Bool, true, false, cond, ⊎_elim, Option, Some, None, is_some, length, map, set, refl, sym, ap, ◌∙◌, subst, arith, eq-eqb, length-set}
+use Rattle.std.proofs.Common.{◌≡◌, ◌≢◌, ℕ, ◌+◌, ◌*◌, ◌<◌, ◌≤◌, ◌==◌, List, [], ◌∷◌, ◌++◌, Bool, true, false, cond}
+use Rattle.std.proofs.Common.{⊎_elim, Option, Some, None, is_some, length, map, set, refl, sym, ap, ◌∙◌, subst, arith}
+use Rattle.std.proofs.Common.{eq-eqb, length-set}
 use Rattle.std.proofs.lemmas.Bool.{cases_eq}
 use Rattle.std.specs.List.Sorted.{IsStrictlySortedBy}
 use Rattle.std.specs.Map.{keys_of}
@@ -61,7 +63,8 @@ waits_in tables page n = waits_for (standing (counts_in tables.pages.records tab
 
 -- the frames that wait for the page have it installed, and as many of them pin it only from now on
 pub record InstallsFrames (waits : ℕ → Bool) (page more : ℕ) (old new : FrameItems) : Type 0 where
-  pub items : (n : ℕ) → item_of new n ≡ cond (waits n) (option_map (installed_item page) (item_of old n)) (item_of old n)
+  pub items : (n : ℕ) → item_of new n ≡ cond (waits n) (option_map (installed_item page) (item_of old n))
+      (item_of old n)
   pub last_asked : new.last_asked ≡ old.last_asked
   pub ordered : IsStrictlySortedBy nat_cmp (keys_of old.items) → IsStrictlySortedBy nat_cmp (keys_of new.items)
   pub pins : (p : ℕ) → pin_count new.items p ≡ pin_count old.items p + cond (page == p) more 0
@@ -86,7 +89,8 @@ HasInstalled-records : (page count pins : ℕ) (old : PageRecords) → page < le
 HasInstalled-records page count pins old below =
     let mid = pinned_by pins old page in
     let r : PageRecord = more_pins pins (record_at old.records page) in
-    let last : PageRecord = record (record_at mid.records page) { resident = true; loader = None; last_used = count; installed_at = count; load_ended_at = count } in
+    let last : PageRecord = record (record_at mid.records page)
+    { resident = true; loader = None; last_used = count; installed_at = count; load_ended_at = count } in
     let within : page < length mid.records = omega (arith, below, length-set old.records page r) in
     record {
       own_installs = replaced-own (λ (x : PageRecord). x.installed_at) mid page last within;
@@ -116,9 +120,12 @@ frames-installed layout s journal tables by page pins frames past are loading in
     omega (arith, loaded-below layout s by page past loading, record-a_page layout s old past.lists are.pages) in
     let has = HasInstalled-records page count pins old below in
     let items = subst (λ (ws : List Want). (n : ℕ) → item_of frames n ≡ cond (waits_for ws n page)
-    (option_map (installed_item page) (item_of tables.frames n)) (item_of tables.frames n)) are.wants.standing installs.items in
-    AreFrames-install s.resident (installed_at old.records) _ s.frames s.wants tables.frames.items frames.items page count
-    are.frames (installed-below layout s by page past.lists loading) (installed-absent layout s by page past.sound loading)
+    (option_map (installed_item page) (item_of tables.frames n)) (item_of tables.frames n)) are.wants.standing
+    installs.items in
+    AreFrames-install s.resident (installed_at old.records) _ s.frames s.wants tables.frames.items frames.items page
+    count
+    are.frames (installed-below layout s by page past.lists loading)
+    (installed-absent layout s by page past.sound loading)
     has.own_installs has.installs (λ n item at. snapshots-uncovered s.entries tables.frames are.timely n item at)
     (λ n item at live waits. waits-missing s.entries old.records tables.frames tables.wants.wants n page item
     are.wants.timely are.waited at live (ap (λ (ws : List Want). waits_for ws n page) are.wants.standing ∙ waits))
@@ -136,11 +143,17 @@ pub CanPin-installed : (layout : Layout) (s : State) (journal : List Entry) (tab
     CanPin tables.pages page pins (length frames.items)
 CanPin-installed layout s journal tables by page pins frames past are loading installs =
     let one : cond (page == page) pins 0 ≡ pins = ap (λ b. cond b pins 0) (eq-eqb page page refl) in
-    let most = pin_count-most (set s.resident page true) _ (map (frame_after_install s.wants page) s.frames) frames.items
+    let most = pin_count-most (set s.resident page true) _ (map (frame_after_install s.wants page) s.frames)
+    frames.items
     page (frames-installed layout s journal tables by page pins frames past are loading installs) in
     record {
       page_range =
-          omega (arith, loaded-below layout s by page past loading, record-a_page layout s tables.pages past.lists are.pages);
+          omega (
+            arith,
+            loaded-below layout s by page past loading,
+            record-a_page layout s tables.pages past.lists
+                are.pages,
+          );
       room = omega (arith, most, one, installs.pins page, are.pins page);
     }
 
@@ -150,7 +163,8 @@ pub record CanInstall (old : PageRecords) (page count : ℕ) : Type 0 where
   pub loading : is_some (record_at old.records page).loader ≡ true
   pub later : (p : ℕ) → (record_at old.records p).last_used < count
 
-pub CanInstall-pinned : (layout : Layout) (s : State) (journal : List Entry) (tables : Tables) (by page pins count : ℕ) →
+pub CanInstall-pinned : (layout : Layout) (s : State) (journal : List Entry) (tables : Tables)
+    (by page pins count : ℕ) →
     IsPast layout s → AreTablesAt layout s journal tables → loads s by page ≡ true →
     ((p : ℕ) → (record_at tables.pages.records p).last_used < count) →
     CanInstall (pinned_by pins tables.pages page) page count
@@ -187,7 +201,8 @@ AreTablesAt-install layout s journal tables by page digest pins frames past are 
     let has = HasInstalled-records page count pins old below in
     record {
       pages = ArePagesOf-install layout s by page digest mid past.lists
-          (ArePagesOf-kept layout s page (more_pins pins (record_at old.records page)) old are.pages refl refl refl refl)
+          (ArePagesOf-kept layout s page (more_pins pins (record_at old.records page)) old are.pages refl refl refl
+          refl)
           loading;
       pins = λ p. ⊎_elim
           (λ same. ap (λ q. (record_at new.records q).pins) same
@@ -227,5 +242,6 @@ AreTablesAt-install layout s journal tables by page digest pins frames past are 
 
     other_count : (p : ℕ) → p ≢ page → pin_count tables.frames.items p ≡ pin_count frames.items p
     other_count p other =
-        let none : ◌≡◌ {A = ℕ} (cond (page == p) pins 0) 0 = ap (λ b. cond b pins 0) (ne-eqb page p (λ e. other (sym e))) in
+        let none : ◌≡◌ {A = ℕ} (cond (page == p) pins 0) 0 = ap (λ b. cond b pins 0)
+        (ne-eqb page p (λ e. other (sym e))) in
         omega (arith, none, installs.pins p)

@@ -1,5 +1,6 @@
 -- The tables after a load that ends without its page.
-use Rattle.std.proofs.Common.{◌≡◌, ◌≢◌, ℕ, ◌+◌, ◌<◌, ◌≤◌, List, [], ◌∷◌, ◌++◌, true, false, ⊎_elim, Option, Some, None, is_some, get_or, length, set, refl, sym, ap, ◌∙◌, arith}
+use Rattle.std.proofs.Common.{◌≡◌, ◌≢◌, ℕ, ◌+◌, ◌<◌, ◌≤◌, List, [], ◌∷◌, ◌++◌, true, false, ⊎_elim, Option, Some}
+use Rattle.std.proofs.Common.{None, is_some, get_or, length, set, refl, sym, ap, ◌∙◌, arith}
 use Rattle.std.proofs.lemmas.Bool.{cases_eq}
 use Rattle.journal.specs.Layout.{uppers_of}
 use Rattle.journal.specs.declared.entries.Entry.{Entry}
@@ -84,7 +85,8 @@ CanLose-loads layout s journal tables by page past are loading =
     let old = tables.pages in
     let below = loaded-below layout s by page past loading in
     let absent = installed-absent layout s by page past.sound loading in
-    let held : is_held s page ≡ true = or-right (is_resident s page) (is_loading s page) (loads-loading s by page loading) in
+    let held : is_held s page ≡ true = or-right (is_resident s page) (is_loading s page)
+    (loads-loading s by page loading) in
     record {
       absent = resident-at layout s old are.pages page ∙ absent;
       loading = loading-at layout s old are.pages page ∙ loads-loading s by page loading;

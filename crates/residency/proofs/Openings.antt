@@ -18,7 +18,8 @@ counts-none : (f : PageRecord → ℕ) (pages roots : ℕ) → ((b : Bool) → f
     (page : ℕ) → f (record_at (opening_records pages roots).records page) ≡ 0
 counts-none f pages roots none page = from_start 0 pages page
   where
-    from_start : (start len page : ℕ) → f (get_or (map (opening_record roots) (range_with_len start len)) page no_record) ≡ 0
+    from_start : (start len page : ℕ) → f (get_or (map (opening_record roots) (range_with_len start len)) page
+        no_record) ≡ 0
     from_start start zero page = none false
     from_start start (suc len) zero = none (nat_lt start roots)
     from_start start (suc len) (suc page) = from_start (start + 1) len page
@@ -31,8 +32,10 @@ AreTables-new layout tables bounds pages items asked wants makers stopped = reco
     pages = rw pages (ArePagesOf-opening layout);
     pins = λ page. rw (pages, items) (counts-none (λ r. r.pins) layout.pages layout.roots (λ b. refl) page);
     timely = record {
-      installed = λ page. at_most_none (rw pages (counts-none (λ r. r.installed_at) layout.pages layout.roots (λ b. refl) page));
-      load_ended = λ page. at_most_none (rw pages (counts-none (λ r. r.load_ended_at) layout.pages layout.roots (λ b. refl) page));
+      installed = λ page. at_most_none (rw pages (counts-none (λ r. r.installed_at) layout.pages layout.roots
+          (λ b. refl) page));
+      load_ended = λ page. at_most_none (rw pages (counts-none (λ r. r.load_ended_at) layout.pages layout.roots
+          (λ b. refl) page));
     };
   };
   frames = record {

@@ -1,5 +1,6 @@
 -- The tables after a Pin: the frame's explicit pins go, and it has a snapshot.
-use Rattle.std.proofs.Common.{◌≡◌, ℕ, ◌+◌, List, [], ◌∷◌, ◌++◌, true, not, ◌||◌, Option, Some, None, length, refl, arith}
+use Rattle.std.proofs.Common.{◌≡◌, ℕ, ◌+◌, List, [], ◌∷◌, ◌++◌, true, not, ◌||◌, Option, Some, None, length, refl}
+use Rattle.std.proofs.Common.{arith}
 use Rattle.journal.specs.declared.entries.Entry.{Entry}
 use Rattle.journal.specs.declared.entries.What.TheVariants.{Pin}
 use Rattle.journal.specs.declared.layouts.Layout.{Layout}
@@ -45,7 +46,8 @@ pub AreTablesAt-pin : (layout : Layout) (s : State) (journal : List Entry) (tabl
     (new : PageRecords) (frames : FrameItems) → AreTablesAt layout s journal tables →
     (owns s by.0 frame || not (has_entry frame journal)) ≡ true →
     MovesPins (pins_in (item_of tables.frames frame)) (λ p. 0) tables.pages new →
-    PutsItem frame (Some (pinned_item by (s.entries + 1) (item_of tables.frames frame))) tables.frames.items frames.items →
+    PutsItem frame (Some (pinned_item by (s.entries + 1) (item_of tables.frames frame))) tables.frames.items
+    frames.items →
     frames.last_asked ≡ tables.frames.last_asked →
     AreTablesAt layout (state_after s (record { by = by.0; what = Pin frame }))
     (journal ++ record { by = by.0; what = Pin frame } ∷ []) (record tables { pages = new; frames = frames })
@@ -70,7 +72,8 @@ AreTablesAt-pin layout s journal tables by frame new frames are allowed moves pu
       frames = AreFrames-recounted s.resident (installed_at old.records) (installed_at new.records)
           (state_after s e).frames frames.items installs
           (AreFrames-pin s.resident (installed_at old.records) s.frames tables.frames.items frames.items frame by count
-          are.frames (may_pin-live s (installed_at old.records) tables.frames.items journal by.0 frame are.frames are.begun
+          are.frames (may_pin-live s (installed_at old.records) tables.frames.items journal by.0 frame are.frames
+          are.begun
           allowed) (λ p. omega (arith, are.installs p)) puts);
       timely = IsTimelyTable-put s.entries tables.frames frames frame now are.timely puts
           (timely-item count now item refl (IsTimelyItem-pinned s.entries by was (are.timely.items frame)))

@@ -6,6 +6,8 @@ use Rattle.pool_rules.specs.Rules.{first_refused_after}
 use Rattle.residency.specs.declared.faults.ReplayFault.{ReplayFault}
 use Rattle.residency.specs.declared.faults.ReplayFault.TheVariants.{Illegal}
 
-pub told-place : {A : Type 0} (layout : Layout) (entries : List Entry) (i place n : ℕ) → first_refused_after layout [] entries ≡ Some n → n ≡ i → ◌≡◌ {A = Result A ReplayFault} (Err (Illegal i)) (Err (Illegal place)) → first_refused_after layout [] entries ≡ Some place
+pub told-place : {A : Type 0} (layout : Layout) (entries : List Entry) (i place n : ℕ) → first_refused_after layout
+    [] entries ≡ Some n → n ≡ i → ◌≡◌ {A = Result A ReplayFault} (Err (Illegal i)) (Err (Illegal place)) →
+    first_refused_after layout [] entries ≡ Some place
 told-place layout entries i place n refused is told =
     let same : i ≡ place = cc in refused ∙ ap Some (is ∙ same)

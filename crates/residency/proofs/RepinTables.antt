@@ -1,5 +1,6 @@
 -- The tables after a Settle or a Narrow: the frame's explicit pins go, others come, and these pages are used.
-use Rattle.std.proofs.Common.{◌≡◌, ℕ, ◌+◌, ◌*◌, ◌<◌, ◌≤◌, List, [], ◌∷◌, ◌++◌, Bool, true, false, nat_lt, Option, Some, None, is_some, length, map, replicate, refl, sym, ap, ◌∙◌, subst, arith}
+use Rattle.std.proofs.Common.{◌≡◌, ℕ, ◌+◌, ◌*◌, ◌<◌, ◌≤◌, List, [], ◌∷◌, ◌++◌, Bool, true, false, nat_lt, Option}
+use Rattle.std.proofs.Common.{Some, None, is_some, length, map, replicate, refl, sym, ap, ◌∙◌, subst, arith}
 use Rattle.std.specs.List.{AllByRecursion}
 use Rattle.std.specs.Option.{option_map}
 use Rattle.std.proofs.lemmas.Bool.Decides.{nat_tests}
@@ -13,7 +14,8 @@ use Rattle.pool_rules.specs.State.{State, is_resident, state_after, wants_of, wa
 use Rattle.pool_rules.proofs.Flags.{place-within}
 use Rattle.pool_rules.proofs.Tests.{and-both, both}
 use Rattle.pool_tables.specs.Changes.{AreUsed, times}
-use Rattle.pool_tables.specs.FrameItems.{FrameItems, PutsItem, asked_in, ended_in, item_in, item_of, narrowed_item, pins_in, settled_item}
+use Rattle.pool_tables.specs.FrameItems.{FrameItems, PutsItem, asked_in, ended_in, item_in, item_of, narrowed_item}
+use Rattle.pool_tables.specs.FrameItems.{pins_in, settled_item}
 use Rattle.pool_tables.specs.FrameMeaning.{IsItemOf, frame_at}
 use Rattle.pool_tables.specs.PageRecords.{PageRecords, record_at}
 use Rattle.pool_tables.specs.PinLists.{flagged, settled_pins}
@@ -33,7 +35,8 @@ use Rattle.pool_tables.proofs.FrameMeanings.{AreFrames-narrow, AreFrames-settle,
 use Rattle.pool_tables.proofs.MakerMeanings.{AreMakers-other}
 use Rattle.pool_tables.proofs.PageTimes.{used-field}
 use Rattle.pool_tables.proofs.PinCounts.{pin_count-most}
-use Rattle.pool_tables.proofs.TableCounts.{AreTimelyCounts-tables, Asks-from_puts, IsTimelyTable-put, KeepsCounts-from_puts}
+use Rattle.pool_tables.proofs.TableCounts.{AreTimelyCounts-tables, Asks-from_puts, IsTimelyTable-put}
+use Rattle.pool_tables.proofs.TableCounts.{KeepsCounts-from_puts}
 use Rattle.pool_tables.proofs.WaitedWants.{IsWaited-narrowed, IsWaited-new, IsWaited-settled, all-of_pages}
 use Rattle.pool_tables.proofs.WantLists.{all-weaker}
 use Rattle.pool_tables.proofs.WantMeanings.{AreWants-asked, AreWants-kept}
@@ -71,7 +74,8 @@ ArePagesOf-repinned : (layout : Layout) (s : State) (count : ℕ) (pages : List 
     (old bare pinned new : PageRecords) → AreRepinned count pages went old bare pinned new →
     ArePagesOf layout s old → ArePagesOf layout s pinned
 ArePagesOf-repinned layout s count pages went old bare pinned new re are =
-    ArePagesOf-moved layout s (λ p. 0) (times pages) bare pinned (ArePagesOf-moved layout s went (λ p. 0) old bare are re.gone)
+    ArePagesOf-moved layout s (λ p. 0) (times pages) bare pinned
+    (ArePagesOf-moved layout s went (λ p. 0) old bare are re.gone)
     re.came
 
 -- pages without flags are each pinned as often as they are named
@@ -82,12 +86,14 @@ times-unflagged pages missing n p =
     omega (arith, times-append pages (flagged missing (replicate n false)) p, none)
 
 -- a live frame that has an item is one of the state's
-pub owned-frame : (layout : Layout) (s : State) (journal : List Entry) (tables : Tables) (frame : ℕ) (item : FrameItem) →
+pub owned-frame : (layout : Layout) (s : State) (journal : List Entry) (tables : Tables) (frame : ℕ)
+    (item : FrameItem) →
     AreTablesAt layout s journal tables → item_in tables.frames.items frame ≡ Some item → item.ended_at ≡ None →
     (f : Frame) × (frame_at frame s.frames ≡ Some f)
 owned-frame layout s journal tables frame item are at live =
     pick (frame_at frame s.frames) refl
-    (subst (λ (o : Option FrameItem). IsItemOf s.resident (installed_at tables.pages.records) (frame_at frame s.frames) o)
+    (subst (λ (o : Option FrameItem). IsItemOf s.resident (installed_at tables.pages.records)
+    (frame_at frame s.frames) o)
     at (are.frames.items frame))
   where
     pick : (o : Option Frame) → frame_at frame s.frames ≡ o →
@@ -109,18 +115,27 @@ pub pins-room : (layout : Layout) (s : State) (journal : List Entry) (tables : T
     (bare : PageRecords) → AreTablesAt layout s journal tables → MovesPins went (λ p. 0) tables.pages bare → (p : ℕ) →
     (record_at bare.records p).pins ≤ 2 * length tables.frames.items
 pins-room layout s journal tables went bare are gone p =
-    omega (arith, gone.pins p, are.pins p, pin_count-most s.resident (installed_at tables.pages.records) s.frames tables.frames.items p are.frames)
+    omega (
+      arith,
+      gone.pins p,
+      are.pins p,
+      pin_count-most s.resident (installed_at tables.pages.records) s.frames
+          tables.frames.items p are.frames,
+    )
 
-pub AreTablesAt-narrow : (layout : Layout) (s : State) (journal : List Entry) (tables : Tables) (by : MakerId) (frame : ℕ)
+pub AreTablesAt-narrow : (layout : Layout) (s : State) (journal : List Entry) (tables : Tables) (by : MakerId)
+    (frame : ℕ)
     (pages : List ℕ) (bare pinned new : PageRecords) (frames : FrameItems) →
     AreTablesAt layout s journal tables → owns s by.0 frame ≡ true → ascends pages ≡ true →
     all_below (length s.resident) pages ≡ true →
     AreRepinned (s.entries + 1) pages (pins_in (item_of tables.frames frame)) tables.pages bare pinned new →
-    PutsItem frame (option_map (narrowed_item by pages) (item_of tables.frames frame)) tables.frames.items frames.items →
+    PutsItem frame (option_map (narrowed_item by pages) (item_of tables.frames frame)) tables.frames.items
+    frames.items →
     frames.last_asked ≡ tables.frames.last_asked →
     AreTablesAt layout (state_after s (record { by = by.0; what = Narrow frame pages }))
     (journal ++ record { by = by.0; what = Narrow frame pages } ∷ []) (record tables { pages = new; frames = frames })
-AreTablesAt-narrow layout s journal tables by frame pages bare pinned new frames are owned ascending below re puts last =
+AreTablesAt-narrow layout s journal tables by frame pages bare pinned new frames are owned ascending below re puts
+    last =
     let e : Entry = record { by = by.0; what = Narrow frame pages } in
     let count = s.entries + 1 in
     let old = tables.pages in
@@ -130,7 +145,8 @@ AreTablesAt-narrow layout s journal tables by frame pages bare pinned new frames
     let item = owned-item layout s journal tables by.0 frame are owned in
     let found = owned-frame layout s journal tables frame item.0 are item.1 item.2 in
     let now_is : now ≡ Some (narrowed_item by pages item.0) = ap (option_map (narrowed_item by pages)) item.1 in
-    let installs = repinned-field (λ (r : PageRecord). r.installed_at) count pages went old bare pinned new (λ k r. refl)
+    let installs = repinned-field (λ (r : PageRecord). r.installed_at) count pages went old bare pinned new
+    (λ k r. refl)
     (λ r. refl) re in
     let loads = repinned-field (λ (r : PageRecord). r.load_ended_at) count pages went old bare pinned new (λ k r. refl)
     (λ r. refl) re in
@@ -142,7 +158,13 @@ AreTablesAt-narrow layout s journal tables by frame pages bare pinned new frames
     record {
       pages = ArePagesOf-narrow layout s by.0 frame pages pinned new
           (ArePagesOf-repinned layout s count pages went old bare pinned new re are.pages) re.used;
-      pins = λ p. omega (arith, repinned-pins count pages went old bare pinned new re p, puts.pins p, are.pins p, pinned_now p);
+      pins = λ p. omega (
+        arith,
+        repinned-pins count pages went old bare pinned new re p,
+        puts.pins p,
+        are.pins p,
+        pinned_now p,
+      );
       installs = λ p. omega (arith, installs p, are.installs p);
       loads = λ p. omega (arith, loads p, are.loads p);
       frames = AreFrames-recounted s.resident (installed_at old.records) (installed_at new.records)
@@ -157,13 +179,16 @@ AreTablesAt-narrow layout s journal tables by frame pages bare pinned new frames
       wants = AreWants-kept s.entries _ _ tables.wants.wants s.wants are.wants
           (record { loads = loads; asked = keeps.asked; ends = keeps.ends; last_asked = keeps.last_asked });
       waited = all-weaker (IsWaited tables.frames) (IsWaited frames)
-          (λ w waited. IsWaited-narrowed frame by pages tables.frames frames w puts waited) tables.wants.wants are.waited;
+          (λ w waited. IsWaited-narrowed frame by pages tables.frames frames w puts waited) tables.wants.wants
+          are.waited;
       makers = AreMakers-other journal s.loading s.loading tables.makers e are.makers refl (λ p m at. at);
       stopped = are.stopped;
     }
 
-pub AreTablesAt-settle : (layout : Layout) (s : State) (journal : List Entry) (tables : Tables) (by : MakerId) (frame : ℕ)
-    (pages missing : List ℕ) (bare pinned new : PageRecords) (frames : FrameItems) (wants : WantQueue) (like : QueuedWant) →
+pub AreTablesAt-settle : (layout : Layout) (s : State) (journal : List Entry) (tables : Tables) (by : MakerId)
+    (frame : ℕ)
+    (pages missing : List ℕ) (bare pinned new : PageRecords) (frames : FrameItems) (wants : WantQueue)
+    (like : QueuedWant) →
     AreTablesAt layout s journal tables → owns s by.0 frame ≡ true → ascends pages ≡ true → ascends missing ≡ true →
     all_below (length s.resident) pages ≡ true →
     AreRepinned (s.entries + 1) pages (pins_in (item_of tables.frames frame)) tables.pages bare pinned new →
@@ -175,7 +200,8 @@ pub AreTablesAt-settle : (layout : Layout) (s : State) (journal : List Entry) (t
     AreTablesAt layout (state_after s (record { by = by.0; what = Settle frame pages missing }))
     (journal ++ record { by = by.0; what = Settle frame pages missing } ∷ [])
     (record tables { pages = new; frames = frames; wants = wants })
-AreTablesAt-settle layout s journal tables by frame pages missing bare pinned new frames wants like are owned ascending missing_ascend below re puts last of_frame is_settle made list =
+AreTablesAt-settle layout s journal tables by frame pages missing bare pinned new frames wants like are owned
+    ascending missing_ascend below re puts last of_frame is_settle made list =
     let e : Entry = record { by = by.0; what = Settle frame pages missing } in
     let count = s.entries + 1 in
     let old = tables.pages in
@@ -186,7 +212,8 @@ AreTablesAt-settle layout s journal tables by frame pages missing bare pinned ne
     let item = owned-item layout s journal tables by.0 frame are owned in
     let found = owned-frame layout s journal tables frame item.0 are item.1 item.2 in
     let now_is : now ≡ Some (change item.0) = ap (option_map change) item.1 in
-    let installs = repinned-field (λ (r : PageRecord). r.installed_at) count pages went old bare pinned new (λ k r. refl)
+    let installs = repinned-field (λ (r : PageRecord). r.installed_at) count pages went old bare pinned new
+    (λ k r. refl)
     (λ r. refl) re in
     let loads = repinned-field (λ (r : PageRecord). r.load_ended_at) count pages went old bare pinned new (λ k r. refl)
     (λ r. refl) re in
@@ -208,7 +235,13 @@ AreTablesAt-settle layout s journal tables by frame pages missing bare pinned ne
     record {
       pages = ArePagesOf-settle layout s by.0 frame pages missing pinned new
           (ArePagesOf-repinned layout s count pages went old bare pinned new re are.pages) re.used;
-      pins = λ p. omega (arith, repinned-pins count pages went old bare pinned new re p, puts.pins p, are.pins p, pinned_now p);
+      pins = λ p. omega (
+        arith,
+        repinned-pins count pages went old bare pinned new re p,
+        puts.pins p,
+        are.pins p,
+        pinned_now p,
+      );
       installs = λ p. omega (arith, installs p, are.installs p);
       loads = λ p. omega (arith, loads p, are.loads p);
       frames = AreFrames-recounted s.resident (installed_at old.records) (installed_at new.records)
@@ -217,19 +250,24 @@ AreTablesAt-settle layout s journal tables by frame pages missing bare pinned ne
           count pages missing found.0 are.frames found.1 below ascending missing_ascend puts);
       timely = IsTimelyTable-put s.entries tables.frames frames frame now are.timely puts
           (timely-item count now (change item.0) now_is
-          (IsTimelyItem-settled s.entries by (settled_pins pages missing) item.0 (are.timely.items frame item.0 item.1)))
+          (IsTimelyItem-settled s.entries by (settled_pins pages missing) item.0
+          (are.timely.items frame item.0 item.1)))
           (omega (arith, last));
       begun = AreBegun-put journal e frame now tables.frames.items frames.items are.begun refl (ap is_some now_is) puts;
-      wants = subst (λ (ws : List QueuedWant). AreWants count counts ws (wants_of_others s frame ++ wants_of frame true missing))
+      wants = subst (λ (ws : List QueuedWant). AreWants count counts ws
+          (wants_of_others s frame ++ wants_of frame true missing))
           (sym list)
-          (subst (λ (b : Bool). AreWants count counts all (wants_of_others s frame ++ wants_of frame b missing)) is_settle
+          (subst (λ (b : Bool). AreWants count counts all (wants_of_others s frame ++ wants_of frame b missing))
+          is_settle
           wants_now);
       waited = subst (AllByRecursion (IsWaited frames)) (sym list)
           (all-appended (IsWaited frames) counts tables.wants.wants like missing
           (all-earlier layout s journal tables (IsWaited frames) are
-          (λ w some early waited. IsWaited-settled frame by count (settled_pins pages missing) tables.frames frames w early puts waited))
+          (λ w some early waited. IsWaited-settled frame by count (settled_pins pages missing) tables.frames frames w
+          early puts waited))
           (all-of_pages (IsWaited frames) like missing
-          (λ page among. IsWaited-new frame by count pages missing tables.frames frames like of_frame puts page among)));
+          (λ page among. IsWaited-new frame by count pages missing tables.frames frames like of_frame puts page
+          among)));
       makers = AreMakers-other journal s.loading s.loading tables.makers e are.makers refl (λ p m at. at);
       stopped = are.stopped;
     }

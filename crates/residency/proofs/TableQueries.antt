@@ -1,5 +1,6 @@
 -- What the tables tell is what the rules say of the state.
-use Rattle.std.proofs.Common.{◌≡◌, ◌==◌, ◌<◌, ℕ, zero, suc, List, [], ◌∷◌, Bool, true, false, not, ◌&&◌, ◌||◌, nat_lt, Option, None, Some, is_some, get_or, length, count_by, find, refl, sym, ap, ◌∙◌, arith}
+use Rattle.std.proofs.Common.{◌≡◌, ◌==◌, ◌<◌, ℕ, zero, suc, List, [], ◌∷◌, Bool, true, false, not, ◌&&◌, ◌||◌, nat_lt}
+use Rattle.std.proofs.Common.{Option, None, Some, is_some, get_or, length, count_by, find, refl, sym, ap, ◌∙◌, arith}
 use Rattle.std.specs.List.{list_all, list_any}
 use Rattle.std.proofs.lemmas.Bool.Decides.{nat_tests}
 use Rattle.journal.specs.Layout.{InBounds, ascends, uppers_of}
@@ -125,7 +126,8 @@ uppers-ascend_from : (us : List (List ℕ)) (page : ℕ) → ((p : ℕ) → p < 
     ascends (get_or us page []) ≡ true
 uppers-ascend_from [] page each = refl
 uppers-ascend_from (u ∷ us) zero each = each 0 (omega arith)
-uppers-ascend_from (u ∷ us) (suc page) each = uppers-ascend_from us page (λ p below. each (suc p) (omega (arith, below)))
+uppers-ascend_from (u ∷ us) (suc page) each = uppers-ascend_from us page
+    (λ p below. each (suc p) (omega (arith, below)))
 
 pub uppers-ascend : (layout : Layout) (page : ℕ) → InBounds layout → ascends (uppers_of layout page) ≡ true
 uppers-ascend layout page bounds = uppers-ascend_from layout.uppers page (λ p below. (bounds.uppers p below).0)

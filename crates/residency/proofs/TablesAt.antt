@@ -1,5 +1,6 @@
 -- What the tables say of a state, field by field, and what is known before an entry.
-use Rattle.std.proofs.Common.{◌≡◌, ℕ, ◌+◌, ◌≤◌, List, [], ◌∷◌, ◌++◌, true, false, Option, Some, None, length, refl, sym, ap, ◌∙◌, subst, arith}
+use Rattle.std.proofs.Common.{◌≡◌, ℕ, ◌+◌, ◌≤◌, List, [], ◌∷◌, ◌++◌, true, false, Option, Some, None, length, refl}
+use Rattle.std.proofs.Common.{sym, ap, ◌∙◌, subst, arith}
 use Rattle.std.specs.List.{AllByRecursion}
 use Rattle.journal.specs.Layout.{InBounds}
 use Rattle.journal.specs.declared.entries.Entry.{Entry}
@@ -63,7 +64,8 @@ AreTablesAt-legal layout journal tables legal =
       frames = are.frames.frames;
       timely = subst (λ n. IsTimelyTable n tables.frames) same are.frames.timely;
       begun = are.frames.begun;
-      wants = subst (λ n. AreWants n (counts_in tables.pages.records tables.frames) tables.wants.wants (state_of layout journal).wants) same are.wants.wants;
+      wants = subst (λ n. AreWants n (counts_in tables.pages.records tables.frames) tables.wants.wants
+          (state_of layout journal).wants) same are.wants.wants;
       waited = are.wants.waited;
       makers = are.makers;
       stopped = are.stopped;
@@ -89,7 +91,8 @@ AreTables-at layout journal tables are =
         begun = are.begun;
       };
       wants = record {
-        wants = subst (λ n. AreWants n (counts_in tables.pages.records tables.frames) tables.wants.wants s.wants) same are.wants;
+        wants = subst (λ n. AreWants n (counts_in tables.pages.records tables.frames) tables.wants.wants s.wants)
+            same are.wants;
         waited = are.waited;
       };
       makers = are.makers;

@@ -1,5 +1,6 @@
 -- The tables after a Take, with a victim and without.
-use Rattle.std.proofs.Common.{◌≡◌, ℕ, ◌+◌, ◌^◌, ◌<◌, ◌≤◌, ◌==◌, nat_lt, List, [], ◌∷◌, ◌++◌, true, false, not, ◌&&◌, ◌||◌, ⊎_elim, Option, Some, None, is_some, length, refl, ap, ◌∙◌, subst, arith}
+use Rattle.std.proofs.Common.{◌≡◌, ℕ, ◌+◌, ◌^◌, ◌<◌, ◌≤◌, ◌==◌, nat_lt, List, [], ◌∷◌, ◌++◌, true, false, not, ◌&&◌}
+use Rattle.std.proofs.Common.{◌||◌, ⊎_elim, Option, Some, None, is_some, length, refl, ap, ◌∙◌, subst, arith}
 use Rattle.std.proofs.lemmas.Bool.Decides.{nat_tests}
 use Rattle.journal.specs.Layout.{InBounds, uppers_of}
 use Rattle.journal.specs.declared.entries.Entry.{Entry}
@@ -22,7 +23,8 @@ use Rattle.pool_tables.specs.PoolPages.{ArePagesOf}
 use Rattle.pool_tables.specs.declared.page_record.MakerId.{MakerId}
 use Rattle.pool_tables.specs.declared.page_record.PageRecord.{PageRecord}
 use Rattle.pool_tables.proofs.BegunFrames.{AreBegun-known, AreBegun-same}
-use Rattle.pool_tables.proofs.EntryPages.{ArePagesOf-take, ArePagesOf-take_for, ArePagesOf-victim, resident-idle, resident-page}
+use Rattle.pool_tables.proofs.EntryPages.{ArePagesOf-take, ArePagesOf-take_for, ArePagesOf-victim, resident-idle}
+use Rattle.pool_tables.proofs.EntryPages.{resident-page}
 use Rattle.pool_tables.proofs.EventPremises.{IsTimelyTable-later, unpinned-frames}
 use Rattle.pool_tables.proofs.FrameMeanings.{AreFrames-evict}
 use Rattle.pool_tables.proofs.MakerMeanings.{AreMakers-take}
@@ -38,7 +40,8 @@ use Rattle.residency.proofs.TablesAt.{AreTablesAt, IsPast, owned-item}
 
 -- ---- what is known of an allowed Take
 
-pub record IsAllowedTake (layout : Layout) (s : State) (by : ℕ) (frame : Option ℕ) (page : ℕ) (victim : Option ℕ) : Type 0 where
+pub record IsAllowedTake (layout : Layout) (s : State) (by : ℕ) (frame : Option ℕ) (page : ℕ) (victim : Option ℕ) :
+    Type 0 where
   pub taken : IsTaken layout s page victim
   pub below : page < layout.pages
   pub owned : (f : ℕ) → frame ≡ Some f → owns s by f ≡ true
@@ -179,7 +182,8 @@ taken-tables : (layout : Layout) (s : State) (journal : List Entry) (tables : Ta
     AreFrames (state_after s (record { by = by.0; what = Take frame page victim })).resident
     (installed_at tables.pages.records) s.frames tables.frames.items →
     AreTablesAt layout (state_after s (record { by = by.0; what = Take frame page victim }))
-    (journal ++ record { by = by.0; what = Take frame page victim } ∷ []) (record tables { pages = new; makers = makers })
+    (journal ++ record { by = by.0; what = Take frame page victim } ∷ [])
+    (record tables { pages = new; makers = makers })
 taken-tables layout s journal tables by frame page victim new makers are allowed has faults keeps pages frames =
     let e : Entry = record { by = by.0; what = Take frame page victim } in
     record {
@@ -231,7 +235,8 @@ pub AreTablesAt-take_for : (layout : Layout) (s : State) (journal : List Entry) 
     AreTablesAt layout (state_after s (record { by = by.0; what = Take frame page (Some victim) }))
     (journal ++ record { by = by.0; what = Take frame page (Some victim) } ∷ [])
     (record tables { pages = new; makers = makers })
-AreTablesAt-take_for layout s journal tables by frame page victim mid new makers past are allowed has faults fewer more =
+AreTablesAt-take_for layout s journal tables by frame page victim mid new makers past are allowed has faults fewer
+    more =
     let evictable = victim-free layout s page victim allowed.taken in
     let free = loose layout s page victim evictable in
     let first = keeps-evicted victim (uppers_of layout victim) tables.pages mid fewer in
@@ -243,7 +248,8 @@ AreTablesAt-take_for layout s journal tables by frame page victim mid new makers
       loads = λ p. then.loads p ∙ first.loads p;
     })
     (ArePagesOf-take_for layout s by.0 frame page victim mid new past.bounds past.lists past.sound
-    (ArePagesOf-victim layout s page victim tables.pages mid past.bounds past.lists past.sound are.pages evictable fewer)
+    (ArePagesOf-victim layout s page victim tables.pages mid past.bounds past.lists past.sound are.pages evictable
+    fewer)
     allowed.taken.takeable allowed.below more)
     (AreFrames-evict s.resident (installed_at tables.pages.records) s.frames tables.frames.items victim are.frames
     (unpinned-frames s victim free.unpinned))

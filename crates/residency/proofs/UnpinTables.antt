@@ -1,12 +1,14 @@
 -- The tables after an Unpin, and what moves of explicit pins leave.
-use Rattle.std.proofs.Common.{◌≡◌, ℕ, ◌+◌, ◌≤◌, List, [], ◌∷◌, ◌++◌, true, Option, Some, None, is_some, refl, sym, ap, ◌∙◌, subst, arith}
+use Rattle.std.proofs.Common.{◌≡◌, ℕ, ◌+◌, ◌≤◌, List, [], ◌∷◌, ◌++◌, true, Option, Some, None, is_some, refl, sym, ap}
+use Rattle.std.proofs.Common.{◌∙◌, subst, arith}
 use Rattle.std.specs.Option.{option_map}
 use Rattle.journal.specs.declared.entries.Entry.{Entry}
 use Rattle.journal.specs.declared.entries.What.TheVariants.{Unpin}
 use Rattle.journal.specs.declared.layouts.Layout.{Layout}
 use Rattle.pool_rules.specs.Rules.{owns}
 use Rattle.pool_rules.specs.State.{State, state_after}
-use Rattle.pool_tables.specs.FrameItems.{FrameItems, PutsItem, asked_in, ended_in, ended_item, item_in, item_of, pins_in}
+use Rattle.pool_tables.specs.FrameItems.{FrameItems, PutsItem, asked_in, ended_in, ended_item, item_in, item_of}
+use Rattle.pool_tables.specs.FrameItems.{pins_in}
 use Rattle.pool_tables.specs.FrameMeaning.{IsTimelyItem}
 use Rattle.pool_tables.specs.PageRecords.{PageRecords, record_at}
 use Rattle.pool_tables.specs.PinMoves.{MovesPins}
@@ -84,7 +86,8 @@ AreTablesAt-unpin layout s journal tables by frame new frames are owned moves pu
     let live : ended_in was ≡ None = ap ended_in item.1 ∙ item.2 in
     let asked : asked_in now ≡ asked_in was = ap asked_in now_is ∙ sym (ap asked_in item.1) in
     let ended : ended_in now ≡ Some (s.entries + 1) = ap ended_in now_is in
-    let ends = EndsFrame-from_puts old.records tables.frames frames frame (s.entries + 1) now puts asked live ended last in
+    let ends = EndsFrame-from_puts old.records tables.frames frames frame (s.entries + 1) now puts asked live ended
+    last in
     record {
       pages = ArePagesOf-again layout s (state_after s e) new refl refl refl
           (ArePagesOf-moved layout s went (λ p. 0) old new are.pages moves);
@@ -104,7 +107,14 @@ AreTablesAt-unpin layout s journal tables by frame new frames are owned moves pu
           (omega (arith, last, are.timely.last_asked));
       begun = AreBegun-put journal e frame now tables.frames.items frames.items are.begun refl (ap is_some now_is) puts;
       wants = AreWants-ended s.entries frame _ _ tables.wants.wants s.wants are.wants
-          (record { loads = loads; asked = ends.asked; live = ends.live; own = ends.own; others = ends.others; last_asked = ends.last_asked })
+          (record {
+            loads = loads;
+            asked = ends.asked;
+            live = ends.live;
+            own = ends.own;
+            others = ends.others;
+            last_asked = ends.last_asked;
+          })
           (AreTimelyCounts-tables s.entries old.records tables.frames are.timely are.loads);
       waited = all-weaker (IsWaited tables.frames) (IsWaited frames)
           (λ w was_waited. IsWaited-ended frame (s.entries + 1) tables.frames frames w puts was_waited)

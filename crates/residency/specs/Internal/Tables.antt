@@ -43,20 +43,24 @@ pub record AreTimelyPages (entries : ℕ) (records : List PageRecord) : Type 0 w
   pub load_ended : (page : ℕ) → (record_at records page).load_ended_at ≤ entries
 
 -- the table of pages
-pub record IsPageTable (layout : Layout) (journal : List Entry) (table : PageRecords) (frames : FrameItems) : Type 0 where
-  pub pages : ArePagesOf layout (state_of layout journal) table
-  -- each record counts the frames that pin its page explicitly
-  pub pins : (page : ℕ) → (record_at table.records page).pins ≡ pin_count frames.items page
-  pub timely : AreTimelyPages (length journal) table.records
+pub record IsPageTable (layout : Layout) (journal : List Entry) (table : PageRecords) (frames : FrameItems) : Type 0
+  where
+    pub pages : ArePagesOf layout (state_of layout journal) table
+    -- each record counts the frames that pin its page explicitly
+    pub pins : (page : ℕ) → (record_at table.records page).pins ≡ pin_count frames.items page
+    pub timely : AreTimelyPages (length journal) table.records
 
 -- the table of frames
-pub record IsFrameTable (layout : Layout) (journal : List Entry) (records : List PageRecord) (table : FrameItems) : Type 0 where
-  pub frames : AreFrames (state_of layout journal).resident (installed_at records) (state_of layout journal).frames table.items
+pub record IsFrameTable (layout : Layout) (journal : List Entry) (records : List PageRecord) (table : FrameItems) :
+    Type 0 where
+  pub frames : AreFrames (state_of layout journal).resident (installed_at records) (state_of layout journal).frames
+      table.items
   pub timely : IsTimelyTable (length journal) table
   pub begun : AreBegun journal table.items
 
 -- the list of wants
-pub record IsWantList (layout : Layout) (journal : List Entry) (records : List PageRecord) (frames : FrameItems) (list : List QueuedWant) : Type 0 where
+pub record IsWantList (layout : Layout) (journal : List Entry) (records : List PageRecord) (frames : FrameItems)
+    (list : List QueuedWant) : Type 0 where
   pub wants : AreWants (length journal) (counts_in records frames) list (state_of layout journal).wants
   pub waited : AllByRecursion (IsWaited frames) list
 

@@ -24,8 +24,15 @@ returns-clause-tables c =
     let frames = c.ask.new.self in
     let puts = subst (λ (n : ℕ). PutsItem frame (option_map (asked_item n) (item_of tables.frames frame))
     tables.frames.items frames.items) is c.ask.ensures.asked in
-    let like : QueuedWant = record { frame = c.args.frame; page = 0; settled = false; made_at = c.next_count-count.result } in
-    let list = c.append.ensures ∙ ap (λ (ws : List QueuedWant). closed_up (counts_in tables.pages.records frames) ws ++ map (of_page like) pages)
+    let like : QueuedWant = record {
+      frame = c.args.frame;
+      page = 0;
+      settled = false;
+      made_at =
+          c.next_count-count.result;
+    } in
+    let list = c.append.ensures ∙ ap (λ (ws : List QueuedWant). closed_up (counts_in tables.pages.records frames) ws
+    ++ map (of_page like) pages)
     c.in_ok-reserve.ensures.wants in
     AreTables-push layout journal _ _
     (AreTablesAt-ask layout s journal tables by frame pages frames c.append.new.self like are owned puts

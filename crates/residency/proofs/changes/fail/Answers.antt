@@ -21,7 +21,8 @@ fail-requires c =
     let s = state_of layout journal in
     let past = IsPast-legal layout journal tables c.requires.past in
     let are = AreTablesAt-legal layout journal tables c.requires.past in
-    let loading : loads s by page ≡ true = (and-both (loads s by page) (rose c.args.before c.args.after && nat_le (last_after by journal) c.args.before) c.requires.allowed).0 in
+    let loading : loads s by page ≡ true = (and-both (loads s by page)
+    (rose c.args.before c.args.after && nat_le (last_after by journal) c.args.before) c.requires.allowed).0 in
     loader-item layout s journal tables by page are loading
 
 pub lose-requires : goal.lose-requires
@@ -34,7 +35,8 @@ lose-requires c =
     let s = state_of layout journal in
     let past = IsPast-legal layout journal tables c.requires.past in
     let are = AreTablesAt-legal layout journal tables c.requires.past in
-    let loading : loads s by page ≡ true = (and-both (loads s by page) (rose c.args.before c.args.after && nat_le (last_after by journal) c.args.before) c.requires.allowed).0 in
+    let loading : loads s by page ≡ true = (and-both (loads s by page)
+    (rose c.args.before c.args.after && nat_le (last_after by journal) c.args.before) c.requires.allowed).0 in
     let can = CanLose-loads layout s journal tables by page past are loading in
     record { absent = can.absent; loading = can.loading; upper_range = can.upper_range; counted = can.counted }
 
@@ -48,7 +50,8 @@ returns c =
     let s = state_of layout journal in
     let past = IsPast-legal layout journal tables c.requires.past in
     let are = AreTablesAt-legal layout journal tables c.requires.past in
-    let loading : loads s by page ≡ true = (and-both (loads s by page) (rose c.args.before c.args.after && nat_le (last_after by journal) c.args.before) c.requires.allowed).0 in
+    let loading : loads s by page ≡ true = (and-both (loads s by page)
+    (rose c.args.before c.args.after && nat_le (last_after by journal) c.args.before) c.requires.allowed).0 in
     let e : Entry = record { by = by; what = Fail page c.args.before c.args.after } in
     let new = c.lose.new.pages in
     let fewer = subst (λ (n : ℕ). HaveFewerDependents (uppers_of layout page) (ended_load tables.pages page n) new)

@@ -4,7 +4,8 @@ use Rattle.journal.specs.declared.entries.What.TheVariants.{Install}
 use Rattle.pool_rules.specs.State.{state_after, state_of}
 use Rattle.pool_tables.specs.PageRecords.{PageRecords, record_at}
 use Rattle.pool_tables.proofs.PageRanges.{used-later}
-use Rattle.residency.proofs.InstallTables.{AreTablesAt-install, CanInstall, CanInstall-pinned, CanPin-installed, InstallsFrames, pinned_by, resident_from, waits_in}
+use Rattle.residency.proofs.InstallTables.{AreTablesAt-install, CanInstall, CanInstall-pinned, CanPin-installed}
+use Rattle.residency.proofs.InstallTables.{InstallsFrames, pinned_by, resident_from, waits_in}
 use Rattle.residency.proofs.TablesAt.{AreTablesAt, AreTablesAt-legal, AreTables-push, IsPast-legal, next-entries}
 use Rattle.residency.proofs.changes.install.Goals as goal
 
@@ -15,7 +16,8 @@ pin-requires c =
     let tables = c.args.tables.now in
     let page = c.args.page in
     let done = c.install-pins.ensures in
-    let installs : InstallsFrames (waits_in tables page) page c.install-pins.result tables.frames c.install-pins.new.frames =
+    let installs : InstallsFrames (waits_in tables page) page c.install-pins.result tables.frames
+    c.install-pins.new.frames =
     record { items = done.items; last_asked = done.last_asked; ordered = done.ordered; pins = done.pins } in
     let can = CanPin-installed layout (state_of layout journal) journal tables c.args.by.0 page c.install-pins.result
     c.install-pins.new.frames (IsPast-legal layout journal tables c.requires.past)
@@ -59,7 +61,10 @@ returns c =
     let e : Entry = record { by = c.args.by.0; what = Install page c.args.digest } in
     let new : c.install.new.self ≡ resident_from (s.entries + 1) (pinned_by pins tables.pages page) page =
     c.install.ensures ∙ (ap (λ (t : PageRecords). resident_from c.next_count.result t page) c.pin.ensures
-    ∙ ap (λ (n : ℕ). resident_from n (pinned_by pins tables.pages page) page) (next-entries layout journal _ c.next_count.ensures)) in
+    ∙ ap (λ (n : ℕ). resident_from n (pinned_by pins tables.pages page) page)
+    (next-entries layout journal _ c.next_count.ensures)) in
     AreTables-push layout journal e _
-    (subst (λ (t : PageRecords). AreTablesAt layout (state_after s e) (journal ++ e ∷ []) (record tables { pages = t; frames = frames }))
-    (sym new) (AreTablesAt-install layout s journal tables c.args.by.0 page c.args.digest pins frames past are c.requires.allowed installs))
+    (subst (λ (t : PageRecords). AreTablesAt layout (state_after s e) (journal ++ e ∷ [])
+    (record tables { pages = t; frames = frames }))
+    (sym new) (AreTablesAt-install layout s journal tables c.args.by.0 page c.args.digest pins frames past are
+    c.requires.allowed installs))

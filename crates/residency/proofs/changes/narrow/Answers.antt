@@ -47,7 +47,13 @@ pin_pages-requires c =
     record {
       page_range = λ p among.
           let within = place-within (λ b. b) s.resident p false refl (all-at_any (is_resident s) pages p all among) in
-          omega (arith, within, past.lists.flag_a_page, record-a_page layout s tables.pages past.lists are.pages, c.unpin_frame.ensures.len);
+          omega (
+            arith,
+            within,
+            past.lists.flag_a_page,
+            record-a_page layout s tables.pages past.lists are.pages,
+            c.unpin_frame.ensures.len,
+          );
       once = λ p. times-ascending 0 pages p ascending;
       counted = pins-room layout s journal tables _ c.unpin_frame.new.pages are c.unpin_frame.ensures;
     }
@@ -73,8 +79,10 @@ use_pages-requires c =
     record {
       ascending = ascending;
       resident = λ p among.
-          moved-field (λ (r : PageRecord). r.resident) (λ p. 0) (times pages) bare pinned (λ k r. refl) c.pin_pages.ensures p
-          ∙ (moved-field (λ (r : PageRecord). r.resident) went (λ p. 0) tables.pages bare (λ k r. refl) c.unpin_frame.ensures p
+          moved-field (λ (r : PageRecord). r.resident) (λ p. 0) (times pages) bare pinned (λ k r. refl)
+          c.pin_pages.ensures p
+          ∙ (moved-field (λ (r : PageRecord). r.resident) went (λ p. 0) tables.pages bare (λ k r. refl)
+          c.unpin_frame.ensures p
           ∙ (resident-at layout s tables.pages are.pages p ∙ all-at_any (is_resident s) pages p all among));
       later = λ p.
           omega (

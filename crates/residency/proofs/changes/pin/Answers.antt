@@ -23,7 +23,8 @@ returns-clause-tables c =
     let frames = c.pin.new.self in
     let are = AreTablesAt-legal layout journal tables c.requires.past in
     let puts = subst (λ (n : ℕ). PutsItem frame (Some (pinned_item c.args.by n (item_of tables.frames frame)))
-    tables.frames.items frames.items) (next-entries layout journal _ c.next_count-count.ensures) c.in_ok-pin.ensures.pinned in
+    tables.frames.items frames.items) (next-entries layout journal _ c.next_count-count.ensures)
+    c.in_ok-pin.ensures.pinned in
     AreTables-push layout journal _ _
     (AreTablesAt-pin layout (state_of layout journal) journal tables c.args.by frame c.pin.new.pages frames are
     c.requires.allowed c.in_ok-pin.ensures.pins puts c.pin.ensures.last_asked)

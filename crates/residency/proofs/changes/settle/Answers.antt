@@ -49,7 +49,13 @@ pin_pages-requires c =
     record {
       page_range = λ p among.
           let within = place-within (λ b. b) s.resident p false refl (all-at_any (is_resident s) pages p all among) in
-          omega (arith, within, past.lists.flag_a_page, record-a_page layout s tables.pages past.lists are.pages, c.unpin_frame.ensures.len);
+          omega (
+            arith,
+            within,
+            past.lists.flag_a_page,
+            record-a_page layout s tables.pages past.lists are.pages,
+            c.unpin_frame.ensures.len,
+          );
       once = λ p. times-ascending 0 pages p ascending;
       counted = pins-room layout s journal tables _ c.unpin_frame.new.pages are c.unpin_frame.ensures;
     }
@@ -76,8 +82,10 @@ use_pages-requires c =
     record {
       ascending = ascending;
       resident = λ p among.
-          moved-field (λ (r : PageRecord). r.resident) (λ p. 0) (times pages) bare pinned (λ k r. refl) c.pin_pages.ensures p
-          ∙ (moved-field (λ (r : PageRecord). r.resident) went (λ p. 0) tables.pages bare (λ k r. refl) c.unpin_frame.ensures p
+          moved-field (λ (r : PageRecord). r.resident) (λ p. 0) (times pages) bare pinned (λ k r. refl)
+          c.pin_pages.ensures p
+          ∙ (moved-field (λ (r : PageRecord). r.resident) went (λ p. 0) tables.pages bare (λ k r. refl)
+          c.unpin_frame.ensures p
           ∙ (resident-at layout s tables.pages are.pages p ∙ all-at_any (is_resident s) pages p all among));
       later = λ p.
           omega (
@@ -115,11 +123,20 @@ returns-clause-tables c =
       came = c.pin_pages.ensures;
       used = subst (λ (n : ℕ). AreUsed n pages pinned new) count_is c.use_pages.ensures;
     } in
-    let made : QueuedWant = record { frame = c.args.frame; page = 0; settled = true; made_at = c.next_count-count.result } in
-    let puts = subst (λ (n : ℕ). PutsItem frame (option_map (settled_item by n (settled_pins pages missing)) (item_of tables.frames frame)) tables.frames.items frames.items) count_is
-    (subst (λ (ps : PinLists). PutsItem frame (option_map (settled_item by c.next_count-count.result ps) (item_of tables.frames frame)) tables.frames.items frames.items)
+    let made : QueuedWant = record {
+      frame = c.args.frame;
+      page = 0;
+      settled = true;
+      made_at =
+          c.next_count-count.result;
+    } in
+    let puts = subst (λ (n : ℕ). PutsItem frame (option_map (settled_item by n (settled_pins pages missing))
+    (item_of tables.frames frame)) tables.frames.items frames.items) count_is
+    (subst (λ (ps : PinLists). PutsItem frame (option_map (settled_item by c.next_count-count.result ps)
+    (item_of tables.frames frame)) tables.frames.items frames.items)
     c.in_ok-pins.ensures c.settle.ensures.settled) in
-    let list = c.append.ensures ∙ ap (λ (ws : List QueuedWant). closed_up (counts_in new.records frames) ws ++ map (of_page made) missing)
+    let list = c.append.ensures ∙ ap (λ (ws : List QueuedWant). closed_up (counts_in new.records frames) ws ++ map
+    (of_page made) missing)
     c.in_ok-reserve.ensures.wants in
     AreTables-push layout journal _ _
     (AreTablesAt-settle layout s journal tables by frame pages missing bare pinned new frames c.append.new.self made are

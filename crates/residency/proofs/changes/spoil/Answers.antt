@@ -21,7 +21,8 @@ lose-requires c =
     let s = state_of layout journal in
     let past = IsPast-legal layout journal tables c.requires.past in
     let are = AreTablesAt-legal layout journal tables c.requires.past in
-    let loading : loads s by page ≡ true = (and-both (loads s by page) (is_wrong c.args.why.now) c.requires.allowed).0 in
+    let loading : loads s by page ≡ true = (and-both (loads s by page) (is_wrong c.args.why.now)
+    c.requires.allowed).0 in
     let can = CanLose-loads layout s journal tables by page past are loading in
     record { absent = can.absent; loading = can.loading; upper_range = can.upper_range; counted = can.counted }
 
@@ -35,7 +36,8 @@ returns c =
     let s = state_of layout journal in
     let past = IsPast-legal layout journal tables c.requires.past in
     let are = AreTablesAt-legal layout journal tables c.requires.past in
-    let loading : loads s by page ≡ true = (and-both (loads s by page) (is_wrong c.args.why.now) c.requires.allowed).0 in
+    let loading : loads s by page ≡ true = (and-both (loads s by page) (is_wrong c.args.why.now)
+    c.requires.allowed).0 in
     let e : Entry = record { by = by; what = Spoil page c.args.why.now } in
     let new = c.lose.new.pages in
     let fewer = subst (λ (n : ℕ). HaveFewerDependents (uppers_of layout page) (ended_load tables.pages page n) new)

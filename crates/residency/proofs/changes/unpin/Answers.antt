@@ -22,7 +22,8 @@ returns c =
     let frame = c.args.frame.0 in
     let are = AreTablesAt-legal layout journal tables c.requires.past in
     let puts = subst (λ (n : ℕ). PutsItem frame (option_map (ended_item n) (item_of tables.frames frame))
-    tables.frames.items c.unpin.new.self.items) (next-entries layout journal _ c.next_count.ensures) c.unpin.ensures.ended in
+    tables.frames.items c.unpin.new.self.items) (next-entries layout journal _ c.next_count.ensures)
+    c.unpin.ensures.ended in
     AreTables-push layout journal _ _
     (AreTablesAt-unpin layout (state_of layout journal) journal tables c.args.by.0 frame c.unpin_frame.new.pages
     c.unpin.new.self are c.requires.allowed c.unpin_frame.ensures puts c.unpin.ensures.last_asked)

@@ -9,10 +9,12 @@ pub returns-in-Some : goal.returns-in-Some
 returns-in-Some c = λ journal past.
     let layout = c.args.layout.now in
     let found = first_takeable-told layout journal c.args.tables.now (number_of c.args.frame) past in
-    c.next_at.ensures journal past ∙ ap (next_of layout (state_of layout journal) (number_of c.args.frame)) (c.in-Some.ensures ∙ found)
+    c.next_at.ensures journal past ∙ ap (next_of layout (state_of layout journal) (number_of c.args.frame))
+    (c.in-Some.ensures ∙ found)
 
 pub returns-in-None : goal.returns-in-None
 returns-in-None c = λ journal past.
     let layout = c.args.layout.now in
     let found = first_takeable-told layout journal c.args.tables.now (number_of c.args.frame) past in
-    c.next_without.ensures layout journal past ∙ ap (next_of layout (state_of layout journal) (number_of c.args.frame)) (c.in-None.ensures ∙ found)
+    c.next_without.ensures layout journal past ∙ ap
+    (next_of layout (state_of layout journal) (number_of c.args.frame)) (c.in-None.ensures ∙ found)

@@ -7,5 +7,6 @@ use Rattle.residency.proofs.pools.tables_of.Given as goal
 abbrev pub invariant-loop-place : goal.invariant-loop-place
 invariant-loop-place l = record {
   past : AreLegalTables l.layout (take l.place l.entries) l.tables;
-  allowed : first_refused_after l.layout (take l.place l.entries) (drop l.place l.entries) ≡ first_refused l.layout l.entries;
+  allowed : first_refused_after l.layout (take l.place l.entries) (drop l.place l.entries) ≡ first_refused l.layout
+      l.entries;
 }

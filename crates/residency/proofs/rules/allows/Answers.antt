@@ -7,7 +7,8 @@ returns-in-Pin c = λ journal past. rw c.in-Pin.is (c.allows_pin.ensures c.args.
 
 pub returns-in-Settle : goal.returns-in-Settle
 returns-in-Settle c = λ journal past.
-    rw (c.in-Settle.is, ← c.as_slice-in-Settle.ensures, ← c.as_slice.ensures) (c.allows_settle.ensures journal past.tables)
+    rw (c.in-Settle.is, ← c.as_slice-in-Settle.ensures, ← c.as_slice.ensures)
+    (c.allows_settle.ensures journal past.tables)
 
 pub returns-in-Ask : goal.returns-in-Ask
 returns-in-Ask c = λ journal past.
@@ -19,7 +20,8 @@ returns-in-Narrow c = λ journal past.
 
 pub returns-in-Unpin : goal.returns-in-Unpin
 returns-in-Unpin c = λ journal past.
-    rw c.in-Unpin.is (c.owns.ensures ∙ owns-told c.args.layout.now journal c.args.tables.now c.args.entry.now.by c.in-Unpin.frame past.tables)
+    rw c.in-Unpin.is (c.owns.ensures ∙ owns-told c.args.layout.now journal c.args.tables.now c.args.entry.now.by
+    c.in-Unpin.frame past.tables)
 
 pub returns-in-Take : goal.returns-in-Take
 returns-in-Take c = λ journal past.

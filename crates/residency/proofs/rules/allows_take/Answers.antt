@@ -13,9 +13,11 @@ pub returns-in-Some : goal.returns-in-Some
 returns-in-Some c = λ journal past.
     let next = sym (c.is_next_take.ensures journal past) ∙ c.if-not-is_next_take.false in
     let owned = owns-told c.args.layout.now journal c.args.tables.now c.args.by.0 c.in-Some.frame.0 past.tables in
-    rw c.in-Some.is (c.owns.ensures ∙ (owned ∙ take-owned c.args.layout.now (state_of c.args.layout.now journal) journal c.args.by.0 c.in-Some.frame.0 c.args.page c.args.victim (rw c.in-Some.is at next)))
+    rw c.in-Some.is (c.owns.ensures ∙ (owned ∙ take-owned c.args.layout.now (state_of c.args.layout.now journal)
+    journal c.args.by.0 c.in-Some.frame.0 c.args.page c.args.victim (rw c.in-Some.is at next)))
 
 pub returns-in-None : goal.returns-in-None
 returns-in-None c = λ journal past.
     let next = sym (c.is_next_take.ensures journal past) ∙ c.if-not-is_next_take.false in
-    rw c.in-None.is (take-for_all c.args.layout.now (state_of c.args.layout.now journal) journal c.args.by.0 c.args.page c.args.victim (rw c.in-None.is at next))
+    rw c.in-None.is (take-for_all c.args.layout.now (state_of c.args.layout.now journal) journal c.args.by.0
+    c.args.page c.args.victim (rw c.in-None.is at next))

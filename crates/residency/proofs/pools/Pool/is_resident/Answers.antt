@@ -8,4 +8,5 @@ pub returns : goal.returns
 returns c =
     let was = c.self.inside in
     rw (← c.self.view_is) (ap (λ (r : PageRecord). r.resident) c.get.ensures
-    ∙ resident-at was.layout (state_of was.layout was.journal.items) was.tables.pages c.self.invariant.past.tables.pages.pages c.args.page)
+    ∙ resident-at was.layout (state_of was.layout was.journal.items) was.tables.pages
+    c.self.invariant.past.tables.pages.pages c.args.page)

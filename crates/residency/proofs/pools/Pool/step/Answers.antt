@@ -8,7 +8,8 @@ use Rattle.residency.proofs.pools.Pool.step.Goals as goal
 pub enter-requires : goal.enter-requires
 enter-requires c =
     let tested = c.allows.ensures c.self.inside.journal.items c.self.invariant.past in
-    rw (c.deref.ensures.value, c.in_ok-reserve.ensures.items) (record { past = c.self.invariant.past; allowed = sym tested ∙ c.if-not-allows.false })
+    rw (c.deref.ensures.value, c.in_ok-reserve.ensures.items)
+    (record { past = c.self.invariant.past; allowed = sym tested ∙ c.if-not-allows.false })
 
 pub returns-then-not-allows-clause-illegal : goal.returns-then-not-allows-clause-illegal
 returns-then-not-allows-clause-illegal c =
