@@ -47,13 +47,6 @@ next_collapse-requires-clause-points c = λ p corner.
     subst (λ l. Contains (points_in l) p) (sym c.deref-in-collapses-2.ensures.value)
     (c.collapses.invariant.points p (subst (λ kept. IsCornerIn (present kept) p) c.deref-in-collapses.ensures.value corner))
 
-found : (c : goal.After-next_collapse) → IsNextOf c.args.locked.now.keys (length c.args.tris.now) c.collapses.kept.items
-    c.next_collapse.result
-found c =
-    found-next c.args.locked.now.keys (length c.args.tris.now) c.collapses.kept.items c.deref-in-collapses.result.now
-    c.collapses.bests.items c.deref-in-collapses-2.result.now c.next_collapse.result c.deref-in-collapses.ensures.value
-    c.deref-in-collapses-2.ensures.value c.next_collapse.ensures c.collapses.invariant.right
-
 pub collapse-requires-clause-triangle_limit : goal.collapse-requires-clause-triangle_limit
 collapse-requires-clause-triangle_limit c =
     let lead = c.collapses.invariant.lead in
@@ -73,7 +66,10 @@ collapse-requires-clause-edge c =
     let kept = c.collapses.kept.items in
     let key = c.in-Some.key in
     let next : IsNext keys (length c.args.tris.now) kept key.from key.to =
-    subst (IsNextOf keys (length c.args.tris.now) kept) c.in-Some.is (found c) in
+    subst (IsNextOf keys (length c.args.tris.now) kept) c.in-Some.is (found-next c.args.locked.now.keys (length c.args.tris.now) c.collapses.kept.items
+    c.deref-in-collapses.result.now c.collapses.bests.items c.deref-in-collapses-2.result.now c.next_collapse.result
+    c.deref-in-collapses.ensures.value c.deref-in-collapses-2.ensures.value c.next_collapse.ensures
+    c.collapses.invariant.right) in
     edge-from_legal (present kept) keys key.from key.to next.least.legal
 
 pub collapses-smaller : goal.collapses-smaller
@@ -82,7 +78,10 @@ collapses-smaller c =
     let n = length c.args.tris.now in
     let kept = c.collapses.kept.items in
     let key = c.in-Some.key in
-    let next : IsNext keys n kept key.from key.to = subst (IsNextOf keys n kept) c.in-Some.is (found c) in
+    let next : IsNext keys n kept key.from key.to = subst (IsNextOf keys n kept) c.in-Some.is (found-next c.args.locked.now.keys (length c.args.tris.now) c.collapses.kept.items
+    c.deref-in-collapses.result.now c.collapses.bests.items c.deref-in-collapses-2.result.now c.next_collapse.result
+    c.deref-in-collapses.ensures.value c.deref-in-collapses-2.ensures.value c.next_collapse.ensures
+    c.collapses.invariant.right) in
     subst (λ state. length state < length kept) (sym c.in_ok-collapse.ensures.kept)
     (length-lt-after keys n kept key.from key.to next)
 
@@ -93,7 +92,10 @@ collapses-preserved c =
     let kept = c.collapses.kept.items in
     let key = c.in-Some.key in
     let lead = c.collapses.invariant.lead in
-    let next : IsNext keys n kept key.from key.to = subst (IsNextOf keys n kept) c.in-Some.is (found c) in
+    let next : IsNext keys n kept key.from key.to = subst (IsNextOf keys n kept) c.in-Some.is (found-next c.args.locked.now.keys (length c.args.tris.now) c.collapses.kept.items
+    c.deref-in-collapses.result.now c.collapses.bests.items c.deref-in-collapses-2.result.now c.next_collapse.result
+    c.deref-in-collapses.ensures.value c.deref-in-collapses-2.ensures.value c.next_collapse.ensures
+    c.collapses.invariant.right) in
     record {
       lead = (
         lead.0 ++ (key.from, key.to) ∷ [],
@@ -115,5 +117,8 @@ returns c =
     record {
       collapses = c.collapses.invariant.lead.0;
       lead = c.collapses.invariant.lead.1;
-      end = subst (IsNextOf keys n c.collapses.kept.items) none (found c);
+      end = subst (IsNextOf keys n c.collapses.kept.items) none (found-next c.args.locked.now.keys (length c.args.tris.now) c.collapses.kept.items
+    c.deref-in-collapses.result.now c.collapses.bests.items c.deref-in-collapses-2.result.now c.next_collapse.result
+    c.deref-in-collapses.ensures.value c.deref-in-collapses-2.ensures.value c.next_collapse.ensures
+    c.collapses.invariant.right);
     }

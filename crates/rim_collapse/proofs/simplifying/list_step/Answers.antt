@@ -24,5 +24,6 @@ list_anew-requires-clause-triangles c =
 pub returns-clause-right : goal.returns-clause-right
 returns-clause-right c =
     anew-right c.args.a c.args.b c.hull_round-hull.result c.args.kept.now c.args.locked.now.keys c.deref-2.result.now
-    c.args.bests.now _ c.requires.edge c.requires.triangles c.hull_round-hull.ensures (near-is c)
+    c.args.bests.now _ c.requires.edge c.requires.triangles c.hull_round-hull.ensures (c.deref-2.ensures.value ∙ c.in_ok-list_near.ensures ∙
+    ap (λ l. filter (reaches c.hull_round-hull.result) (present l)) (c.deref.ensures.value ∙ c.in_ok-list_after.ensures))
     c.in_ok-list_anew.ensures.right
