@@ -5,5 +5,6 @@ pub mod FacetLaws
 pub mod Following
 pub mod Listed
 pub mod ListedRows
+pub mod NearLaws
 pub mod Products
 pub mod StepLaws

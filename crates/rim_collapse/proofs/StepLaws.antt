@@ -6,11 +6,13 @@ use Rattle.std.specs.Ordering.{is_eq, is_lt, ordering_reverse}
 use Rattle.std.specs.declared.cmp.Ordering.TheVariants.{Less, Equal, Greater}
 use Rattle.std.proofs.lemmas.Bool.{and_parts}
 use Rattle.std.proofs.lemmas.List.Elements.{All-contains, All-more, All-weaker, Contains-append_left, Contains-append_right, filter-append}
-use Rattle.std.proofs.lemmas.List.{append-nil, map-append, take_more}
+use Rattle.std.proofs.lemmas.List.{append-nil, get_or-map, length-map, map-append, take_more}
 use Rattle.std.proofs.lemmas.List.Folds.{Any-from_list_any}
 use Rattle.std.proofs.lemmas.List.Sorted.{ranks_by}
 use Rattle.geom_core.specs.declared.points.Pt.{Pt}
 use Rattle.geom_core.specs.declared.triangles.Tri.{Tri}
+use Rattle.geom_core.specs.declared.triangles.Tagged.{Tagged}
+use Rattle.geom_core.specs.TaggedLists.{tris_of}
 use Rattle.geom_core.specs.Collapses.{collapsed, replaced}
 use Rattle.geom_core.specs.Corners.{has_corner, IsCornerIn}
 use Rattle.geom_core.specs.EdgeSum.{same_point}
@@ -19,6 +21,7 @@ use Rattle.geom_core.proofs.CollapseCounts.{length-lt-collapsed}
 use Rattle.geom_core.specs.Limits.{has_distinct_corners}
 use Rattle.geom_core.specs.Order.{point_cmp}
 use Rattle.geom_core.proofs.PointLaws.{point_cmp-total, same_point-is, same_point-refl}
+use Rattle.rim_collapse.specs.declared.bests.Best.{Best}
 use Rattle.rim_collapse.specs.declared.keys.Key.{Key}
 use Rattle.rim_collapse.specs.declared.states.Kept.{Kept}
 use Rattle.rim_collapse.specs.Cost.{key_cmp, key_of}
@@ -26,7 +29,7 @@ use Rattle.rim_collapse.specs.Legal.{has_both, has_edge, is_among, is_legal_coll
 use Rattle.rim_collapse.specs.Moved.{moved_of, shift}
 use Rattle.rim_collapse.specs.Simplified.{IsNext, Lead}
 use Rattle.rim_collapse.specs.States.{after, moved_to, present}
-use Rattle.rim_collapse.specs.Internal.Bests.{IsBestAmong, IsBestAt, lesser_of}
+use Rattle.rim_collapse.specs.Internal.Bests.{IsBestAmong, IsBestAt, IsRight, lesser_of, points_in}
 use Rattle.rim_collapse.specs.Internal.Points.{corners_of}
 use Rattle.rim_collapse.specs.Internal.Steps.{IsNextOf}
 use Rattle.rim_collapse.proofs.BestLaws.{before-all}
@@ -91,6 +94,15 @@ among-more tris locked points i p (Some k) (Some l) within least best =
           (best.2 q legal) later),
     )
 
+pub least-more : (tris : List Tri) (locked : List Pt) (bests : List Best) (i : ℕ) (d : Best) (least : Option Key) →
+    i < length bests → All (IsRight tris locked) bests → IsBestAmong tris locked (take i (points_in bests)) least →
+    IsBestAmong tris locked (take (i + 1) (points_in bests)) (lesser_of least (get_or bests i d).key)
+least-more tris locked bests i d least within right so_far =
+    among-more tris locked (points_in bests) i d.point least (get_or bests i d).key
+    (omega (arith, length-map bests (λ (b : Best). b.point))) so_far
+    (subst (λ p. IsBestAt tris locked p (get_or bests i d).key)
+    (sym (get_or-map (λ (b : Best). b.point) bests i d d.point within)) (right i d within))
+
 -- ---- points
 
 pub source-corner : (tris : List Tri) (a b : Pt) → has_edge tris a b ≡ true → IsCornerIn tris a
@@ -130,6 +142,20 @@ next-of locked n state points (Some k) many covered best = record {
         (covered c (source-corner (present state) c d (edge-from_legal (present state) locked c d legal))) d legal;
   };
 }
+
+-- what is found over lists that are the present ones is the next collapse
+pub found-next : (locked : List Pt) (n : ℕ) (kept seen : List Kept) (bests asked : List Best) (found : Option Key) →
+    seen ≡ kept → asked ≡ bests →
+    ((held : List Pt) → All (IsRight (present seen) held) asked → IsNextOf held n seen found) →
+    All (IsRight (present kept) locked) bests → IsNextOf locked n kept found
+found-next locked n kept seen bests asked found same_kept same_bests next right =
+    subst (λ s. IsNextOf locked n s found) same_kept
+    (next locked (subst (λ s. All (IsRight (present s) locked) asked) (sym same_kept)
+    (subst (All (IsRight (present kept) locked)) (sym same_bests) right)))
+
+pub length-tris_of : (tris : List Tagged) → length (tris_of tris) ≡ length tris
+length-tris_of [] = refl
+length-tris_of (t ∷ tris) = omega (arith, length-tris_of tris)
 
 pub lead-more : (locked : List Pt) (n : ℕ) (collapses : List (Pt × Pt)) (state middle : List Kept) (a b : Pt) →
     Lead locked n collapses state middle → IsNext locked n middle a b →

@@ -18,6 +18,7 @@ mod facets;
 mod keys;
 pub mod laws;
 mod least;
+mod near;
 mod points;
 mod simplifying;
 mod states;

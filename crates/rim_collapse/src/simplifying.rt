@@ -1,4 +1,4 @@
-ghost use Rattle.std.specs.Prelude.{◌≡◌, ◌≤◌, IfOk, OnOk, IsTrue, List, length, map, All, Contains};
+ghost use Rattle.std.specs.Prelude.{◌≡◌, ◌≤◌, IfOk, OnOk, IsTrue, true, List, length, map, All, Contains};
 ghost use Rattle.geom_core.specs.declared.limits.TheConstants.{TRIANGLES_PER_GROUP};
 ghost use Rattle.geom_core.specs.declared.points.Pt.{Pt};
 ghost use Rattle.geom_core.specs.Corners.{IsCornerIn};
@@ -6,16 +6,18 @@ ghost use Rattle.geom_core.specs.EdgeSum.{edge_sum, OnRim};
 ghost use Rattle.geom_core.specs.Limits.{IsGridTriangle};
 ghost use Rattle.geom_core.specs.TaggedLists.{tris_of};
 ghost use Rattle.rim_collapse.specs.declared.states.Kept.{Kept};
+ghost use Rattle.rim_collapse.specs.Internal.Bests.{IsRight, points_in};
 ghost use Rattle.rim_collapse.specs.Internal.Steps.{IsNextOf};
-ghost use Rattle.rim_collapse.specs.Legal.{is_among};
+ghost use Rattle.rim_collapse.specs.Legal.{has_edge, is_among};
 ghost use Rattle.rim_collapse.specs.Moved.{moved_of};
 ghost use Rattle.rim_collapse.specs.Simplified.{IsSimplified};
 ghost use Rattle.rim_collapse.specs.Sound.{IsSound};
 ghost use Rattle.rim_collapse.specs.States.{after, begun, present, tagged_of};
 
-use crate::bests::best_of_all;
+use crate::bests::{Best, bests_of, least_best, list_anew};
 use crate::facets::Facet;
 use crate::keys::Key;
+use crate::near::{hull_round, list_near};
 use crate::points::points_of;
 use crate::states::{Kept, begun, list_after, list_present, moved, tagged};
 use geom_core::{Memory, Pt, Tagged, TaggedTris, Tri};
@@ -36,41 +38,82 @@ pub struct Simplified {
 /// Lists that are filled anew for each collapse, so that they take memory only once.
 #[derive(Drop)]
 struct Scratch {
-    /// The triangles as they are.
-    tris: Vec<Tri>,
+    /// The triangles near the collapse.
+    near: Vec<Tri>,
     /// The triangles round one point.
     facets: Vec<Facet>,
     /// The state after a collapse.
-    next: Vec<Kept>,
+    kept: Vec<Kept>,
+    /// The points' least legal collapses after a collapse.
+    bests: Vec<Best>,
 }
 
 /// Returns the next collapse, or `None` if at most half of the `count` triangles are left or no collapse is legal.
-fn next_collapse(
-    scratch: &mut Scratch,
-    kept: &[Kept],
-    points: &[Pt],
-    locked: &BTreeSet<Pt>,
-    count: usize,
-) -> Result<Option<Key>, Memory>
+fn next_collapse(kept: &[Kept], bests: &[Best], count: usize) -> Option<Key>
     requires triangle_limit { length kept.now ≤ TRIANGLES_PER_GROUP }
-    requires triangles { All IsGridTriangle (present kept.now) }
-    requires points { (p : Pt) → IsCornerIn (present kept.now) p → Contains points.now p }
-    ensures { IfOk result (IsNextOf locked.now.keys count kept.now) }
+    requires points { (p : Pt) → IsCornerIn (present kept.now) p → Contains (points_in bests.now) p }
+    ensures { (locked : List Pt) → All (IsRight (present kept.now) locked) bests.now →
+        IsNextOf locked count kept.now result }
 {
     if 2 * kept.len() <= count {
-        return Ok(None);
+        return None;
     }
-    list_present(&mut scratch.tris, kept)?;
-    let best = best_of_all(&mut scratch.facets, &scratch.tris, locked, points)?;
-    Ok(best)
+    least_best(bests)
+}
+
+/// Lists the state after a collapse of a to b, and the points' least legal collapses there. Asks the points anew round
+/// which the collapse changes triangles, over the triangles near them; the least legal collapse of each other point
+/// stays, as only the triangles round a point decide it.
+fn list_step(
+    scratch: &mut Scratch,
+    kept: &[Kept],
+    bests: &[Best],
+    locked: &BTreeSet<Pt>,
+    a: Pt,
+    b: Pt,
+) -> Result<(), Memory>
+    requires triangle_limit { length kept.now ≤ TRIANGLES_PER_GROUP }
+    requires triangles { All IsGridTriangle (present kept.now) }
+    requires edge { has_edge (present kept.now) a b ≡ true }
+    ensures kept { OnOk result (scratch.new.kept.items ≡ after a b kept.now) }
+    ensures points { OnOk result (points_in scratch.new.bests.items ≡ points_in bests.now) }
+    ensures right { OnOk result (All (IsRight (present kept.now) locked.now.keys) bests.now →
+        All (IsRight (present (after a b kept.now)) locked.now.keys) scratch.new.bests.items) }
+{
+    let hull = hull_round(kept, a);
+    list_after(&mut scratch.kept, kept, a, b)?;
+    list_near(&mut scratch.near, &scratch.kept, hull)?;
+    list_anew(
+        &mut scratch.bests,
+        &mut scratch.facets,
+        bests,
+        &scratch.near,
+        locked,
+        hull,
+    )?;
+    Ok(())
 }
 
 /// Does a collapse of a to b.
-fn collapse(kept: &mut Vec<Kept>, scratch: &mut Scratch, a: Pt, b: Pt) -> Result<(), Memory>
-    ensures { OnOk result (kept.new.items ≡ after a b kept.old.items) }
+fn collapse(
+    kept: &mut Vec<Kept>,
+    bests: &mut Vec<Best>,
+    scratch: &mut Scratch,
+    locked: &BTreeSet<Pt>,
+    a: Pt,
+    b: Pt,
+) -> Result<(), Memory>
+    requires triangle_limit { length kept.old.items ≤ TRIANGLES_PER_GROUP }
+    requires triangles { All IsGridTriangle (present kept.old.items) }
+    requires edge { has_edge (present kept.old.items) a b ≡ true }
+    ensures kept { OnOk result (kept.new.items ≡ after a b kept.old.items) }
+    ensures points { OnOk result (points_in bests.new.items ≡ points_in bests.old.items) }
+    ensures right { OnOk result (All (IsRight (present kept.old.items) locked.now.keys) bests.old.items →
+        All (IsRight (present (after a b kept.old.items)) locked.now.keys) bests.new.items) }
 {
-    list_after(&mut scratch.next, kept, a, b)?;
-    mem::swap(kept, &mut scratch.next);
+    list_step(scratch, kept, bests, locked, a, b)?;
+    mem::swap(kept, &mut scratch.kept);
+    mem::swap(bests, &mut scratch.bests);
     Ok(())
 }
 
@@ -82,20 +125,29 @@ fn end_state(alloc: Global, tris: &[Tagged], locked: &BTreeSet<Pt>) -> Result<Ve
 {
     let mut kept = begun(alloc, tris)?;
     let mut scratch = Scratch {
-        tris: Vec::new(alloc),
+        near: Vec::new(alloc),
         facets: Vec::new(alloc),
-        next: Vec::new(alloc),
+        kept: Vec::new(alloc),
+        bests: Vec::new(alloc),
     };
-    list_present(&mut scratch.tris, &kept)?;
-    let points = points_of(alloc, &scratch.tris)?;
-    'collapses: while let Some(key) = next_collapse(
-        &mut scratch,
-        &kept,
-        &points,
+    list_present(&mut scratch.near, &kept)?;
+    let points = points_of(alloc, &scratch.near)?;
+    let mut bests = bests_of(
+        alloc,
+        &mut scratch.facets,
+        &scratch.near,
         locked,
-        tris.len(),
-    )? {
-        collapse(&mut kept, &mut scratch, key.from, key.to)?;
+        &points,
+    )?;
+    'collapses: while let Some(key) = next_collapse(&kept, &bests, tris.len()) {
+        collapse(
+            &mut kept,
+            &mut bests,
+            &mut scratch,
+            locked,
+            key.from,
+            key.to,
+        )?;
     }
     Ok(kept)
 }

@@ -1,8 +1,9 @@
 -- The least legal collapses of single points.
-use Rattle.std.specs.Prelude.{◌≡◌, Bool, true, false, ◌&&◌, List, Option, Some, None, All, if◌then◌else◌}
+use Rattle.std.specs.Prelude.{◌≡◌, Bool, true, false, ◌&&◌, List, Option, Some, None, All, map, if◌then◌else◌}
 use Rattle.std.specs.Ordering.{is_lt}
 use Rattle.geom_core.specs.declared.points.Pt.{Pt}
 use Rattle.geom_core.specs.declared.triangles.Tri.{Tri}
+use Rattle.rim_collapse.specs.declared.bests.Best.{Best}
 use Rattle.rim_collapse.specs.declared.keys.Key.{Key}
 use Rattle.rim_collapse.specs.Cost.{key_cmp, key_of}
 use Rattle.rim_collapse.specs.Legal.{has_edge, is_legal, is_legal_collapse}
@@ -42,3 +43,11 @@ abbrev pub lesser_of : Option Key → Option Key → Option Key
 lesser_of None other = other
 lesser_of (Some k) None = Some k
 lesser_of (Some k) (Some l) = if is_lt (key_cmp l k) then Some l else Some k
+
+-- the points, in order
+abbrev pub points_in : List Best → List Pt
+points_in bests = map (λ b. b.point) bests
+
+-- the least legal collapse of its point, or none
+abbrev pub IsRight : List Tri → List Pt → Best → Type 0
+IsRight tris locked b = IsBestAt tris locked b.point b.key
