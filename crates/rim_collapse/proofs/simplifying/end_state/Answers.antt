@@ -105,7 +105,7 @@ collapses-preserved c =
       points = λ p corner. subst (λ l. Contains l p) (sym c.in_ok-collapse.ensures.points)
           (covered-more keys n kept (points_in c.collapses.bests.items) key.from key.to next c.collapses.invariant.points p
           (subst (λ state. IsCornerIn (present state) p) c.in_ok-collapse.ensures.kept corner));
-      right = subst (λ state. All (IsRight (present state) keys) _) (sym c.in_ok-collapse.ensures.kept)
+      right = subst (λ state. All (IsRight (present state) keys) c.collapse.new.bests.items) (sym c.in_ok-collapse.ensures.kept)
           (c.in_ok-collapse.ensures.right c.collapses.invariant.right);
     }
 

@@ -1,4 +1,4 @@
-use Rattle.std.proofs.Common.{◌≡◌, All, filter, length, sym, ap, subst, ◌∙◌, arith}
+use Rattle.std.proofs.Common.{◌≡◌, All, filter, sym, ap, subst, ◌∙◌, arith}
 use Rattle.geom_core.specs.Limits.{IsGridTriangle}
 use Rattle.rim_collapse.specs.States.{after, present}
 use Rattle.rim_collapse.specs.Internal.Near.{reaches}
