@@ -1,28 +1,30 @@
--- Which points' collapses a collapse leaves as they are, and which triangles decide those of some points.
-use Rattle.std.proofs.Common.{◌≡◌, ◌≢◌, inl, inr, ℕ, ◌+◌, ◌<◌, ◌≤◌, Bool, true, false, not, ◌||◌, List, [], ◌∷◌, ◌++◌, filter, map, take, length, get_or, cond, All, refl, sym, ap, ◌∙◌, subst, arith}
-use Rattle.std.proofs.lemmas.Bool.{and_parts, cases_Bool, or_left, or_right}
-use Rattle.std.proofs.lemmas.List.{length-map, map-append, map_more}
-use Rattle.std.proofs.lemmas.List.Elements.{All-contains, All-filter, All-head, All-push, All-same, All-tail, All-weaker}
+-- Which points' collapses a collapse leaves as they are, and which triangles decide those of the marked points.
+use Rattle.std.proofs.Common.{◌≡◌, ◌≢◌, inl, inr, ℕ, ◌<◌, ◌≤◌, Bool, true, false, not, ◌||◌, List, [], ◌∷◌, filter, map, length, get_or, cond, All, Option, None, refl, sym, ap, ◌∙◌, subst, arith}
+use Rattle.std.specs.Bool.{◌==◌}
+use Rattle.std.specs.Prelude.{slice_index_or}
+use Rattle.std.proofs.lemmas.Bool.{and_parts, cases_Bool, or_cases, or_left, or_right}
+use Rattle.std.proofs.lemmas.Bool.Decides.{nat_tests}
+use Rattle.std.proofs.lemmas.List.{get_or-map, length-map}
+use Rattle.std.proofs.lemmas.List.Elements.{All-contains, All-filter, All-head, All-map, All-tail, All-weaker}
 use Rattle.std.proofs.lemmas.List.Folds.{Any-from_list_any}
-use Rattle.geom_core.specs.declared.boxes.Cube.{Cube}
 use Rattle.geom_core.specs.declared.points.Pt.{Pt}
 use Rattle.geom_core.specs.declared.triangles.Tri.{Tri}
-use Rattle.geom_core.specs.Boxes.{holds_point, join_of, point_box}
 use Rattle.geom_core.specs.Collapses.{collapsed, replaced, replaced_point}
 use Rattle.geom_core.specs.Corners.{has_corner}
 use Rattle.geom_core.specs.EdgeSum.{same_point}
 use Rattle.geom_core.specs.Limits.{has_distinct_corners, has_grid_corners, IsGridTriangle}
-use Rattle.geom_core.proofs.BoxLaws.{held_points, Holds-to, holds_point-is, join_of-first, join_of-second}
 use Rattle.geom_core.proofs.CollapseCorners.{at_corner, has_corner-a, has_corner-b, has_corner-c, IsGridPoint-corner, IsGridTriangle-collapsed}
 use Rattle.geom_core.proofs.CollapseLaws.{one_or_two, replaced_point-at, replaced_point-off}
-use Rattle.rim_collapse.specs.declared.bests.Best.{Best}
-use Rattle.rim_collapse.specs.declared.states.Kept.{Kept}
+use Rattle.rim_collapse.specs.declared.faces.Face.{Face}
+use Rattle.rim_collapse.specs.declared.keys.Key.{Key}
 use Rattle.rim_collapse.specs.Cost.{around}
 use Rattle.rim_collapse.specs.Legal.{has_both, has_edge}
-use Rattle.rim_collapse.specs.States.{after, moved_to, present}
-use Rattle.rim_collapse.specs.Internal.Bests.{IsRight, points_in}
-use Rattle.rim_collapse.specs.Internal.Near.{HoldsCorners, HoldsRound, reaches, widened}
+use Rattle.rim_collapse.specs.States.{after, present}
+use Rattle.rim_collapse.specs.Internal.Bests.{AreRight, IsBestAt}
+use Rattle.rim_collapse.specs.Internal.Faces.{IsNumbered, face_to, faces_after, has_distinct_numbers, has_number, point_at, state_of, tri_at, tris_at}
+use Rattle.rim_collapse.specs.Internal.Marks.{AreMarkedRound, HasMarkedCorners, is_marked, touches}
 use Rattle.rim_collapse.proofs.BestLaws.{right-alike}
+use Rattle.rim_collapse.proofs.FaceLaws.{IsAscending, corner-number, present-state_of, state_of-after}
 use Rattle.rim_collapse.proofs.Following.{present-after, target-corner}
 
 clash : (x : Bool) → x ≡ true → x ≡ false → ⊥
@@ -30,25 +32,38 @@ clash x h k = cc
 
 -- ---- near triangles
 
--- a triangle with corner p reaches each box that holds p
-reaches-corner : (hull : Cube) (p : Pt) (t : Tri) → holds_point hull p ≡ true → has_corner p t ≡ true →
-    reaches hull t ≡ true
-unfolding reaches
-reaches-corner hull p t held has =
-    at_corner (λ q. holds_point hull q ≡ true → holds_point hull t.a || holds_point hull t.b || holds_point hull t.c ≡ true)
-    p t (λ h. or_left _ _ (or_left _ _ h)) (λ h. or_left _ _ (or_right _ _ h)) (λ h. or_right _ _ h) has held
+equal_from : (n m : ℕ) → n == m ≡ true → n ≡ m
+equal_from n m h = grind (arith, nat_tests)
 
--- so the triangles round p are all near
-pub around-near : (hull : Cube) (p : Pt) (tris : List Tri) → holds_point hull p ≡ true →
-    around p (filter (reaches hull) tris) ≡ around p tris
-around-near hull p [] held = refl
-around-near hull p (t ∷ tris) held =
-    elim (cases_Bool (has_corner p t)) [
-      | inl has ↦ rw (reaches-corner hull p t held has, has, around-near hull p tris held)
+-- a face with a marked corner is touched
+pub touches-number : (marks : List Bool) (n : ℕ) (f : Face) → is_marked marks n ≡ true → has_number n f ≡ true →
+    touches marks f ≡ true
+unfolding touches has_number
+touches-number marks n f marked has =
+    elim (or_cases (f.a == n || f.b == n) (f.c == n) has) [
+      | inl front ↦
+          elim (or_cases (f.a == n) (f.b == n) front) [
+            | inl at ↦ or_left _ _ (or_left _ _ (ap (is_marked marks) (equal_from f.a n at) ∙ marked))
+            | inr at ↦ or_left _ _ (or_right _ _ (ap (is_marked marks) (equal_from f.b n at) ∙ marked))
+          ]
+      | inr at ↦ or_right _ _ (ap (is_marked marks) (equal_from f.c n at) ∙ marked)
+    ]
+
+-- so the triangles round a marked point are all near
+pub around-near : (marks : List Bool) (points : List Pt) (n : ℕ) (faces : List Face) → IsAscending points →
+    n < length points → is_marked marks n ≡ true → All (IsNumbered (length points)) faces →
+    around (point_at points n) (tris_at points (filter (touches marks) faces)) ≡
+    around (point_at points n) (tris_at points faces)
+around-near marks points n [] ascending within marked all = refl
+around-near marks points n (f ∷ faces) ascending within marked all =
+    let is = corner-number points n f ascending within (All-head (IsNumbered (length points)) f faces all) in
+    let rest = around-near marks points n faces ascending within marked (All-tail (IsNumbered (length points)) f faces all) in
+    elim (cases_Bool (has_number n f)) [
+      | inl has ↦ rw (touches-number marks n f marked has, is ∙ has, rest)
       | inr hasnt ↦
-          elim (cases_Bool (reaches hull t)) [
-            | inl near ↦ rw (near, hasnt, around-near hull p tris held)
-            | inr far ↦ rw (far, hasnt, around-near hull p tris held)
+          elim (cases_Bool (touches marks f)) [
+            | inl near ↦ rw (near, is ∙ hasnt, rest)
+            | inr far ↦ rw (far, is ∙ hasnt, rest)
           ]
     ]
 
@@ -73,7 +88,7 @@ unfolding replaced
 no-corner a b p t hasnt apart =
     elim (cases_Bool (has_corner p (replaced a b t))) [
       | inl has ↦ absurd (at_corner (λ q. q ≢ p) p (replaced a b t) (each t.a (has_corner-a t))
-        (each t.b (has_corner-b t)) (each t.c (has_corner-c t)) has refl)
+          (each t.b (has_corner-b t)) (each t.c (has_corner-c t)) has refl)
       | inr none ↦ none
     ]
   where
@@ -109,108 +124,110 @@ around-after a b p (t ∷ tris) apart distinct none =
           rw (replaced-apart a b t hasnt, whole) (ap (λ l. cond (has_corner p t) (t ∷ l) l) rest))
     ]
 
--- ---- the box round a point
+-- ---- points that aren't marked
 
-held-first : (box other : Cube) (p : Pt) → holds_point box p ≡ true → holds_point (join_of box other) p ≡ true
-held-first box other p held =
-    held_points (join_of box other) box p (Holds-to (join_of box other) box (join_of-first box other)) held
-
-held-second : (box : Cube) (p : Pt) → holds_point (join_of box (point_box p)) p ≡ true
-held-second box p =
-    holds_point-is (join_of box (point_box p)) p ∙
-    Holds-to (join_of box (point_box p)) (point_box p) (join_of-second box (point_box p))
-
-widened-wider : (hull : Cube) (t : Tri) (p : Pt) → holds_point hull p ≡ true → holds_point (widened hull t) p ≡ true
-unfolding widened
-widened-wider hull t p held =
-    let one = join_of hull (point_box t.a) in
-    let two = join_of one (point_box t.b) in
-    held-first two (point_box t.c) p (held-first one (point_box t.b) p (held-first hull (point_box t.a) p held))
-
-widened-corners : (hull : Cube) (t : Tri) → HoldsCorners (widened hull t) t
-unfolding widened
-widened-corners hull t = λ p has.
-    let one = join_of hull (point_box t.a) in
-    let two = join_of one (point_box t.b) in
-    at_corner (λ q. holds_point (join_of two (point_box t.c)) q ≡ true) p t
-    (held-first two (point_box t.c) t.a (held-first one (point_box t.b) t.a (held-second hull t.a)))
-    (held-first two (point_box t.c) t.b (held-second one t.b)) (held-second two t.c) has
-
--- the corners of the triangle are in the box if it has corner a
-abbrev IsRound : Pt → Cube → Tri → Type 0
-IsRound a hull t = has_corner a t ≡ true → HoldsCorners hull t
-
-round-more : (a : Pt) (kept : List Kept) (i : ℕ) (d : Kept) (hull : Cube) → i < length kept →
-    HoldsRound a hull (present (take i kept)) → IsRound a hull (get_or kept i d).tri →
-    HoldsRound a hull (present (take (i + 1) kept))
-round-more a kept i d hull within so_far here =
-    All-same (IsRound a hull) (present (take (i + 1) kept)) (present (take i kept) ++ (get_or kept i d).tri ∷ [])
-    (map_more (λ (k : Kept). k.tri) kept i d within)
-    (All-push (IsRound a hull) (present (take i kept)) (get_or kept i d).tri so_far here)
-
-pub hull-widened : (a : Pt) (kept : List Kept) (i : ℕ) (d : Kept) (hull next : Cube) → i < length kept →
-    next ≡ widened hull (get_or kept i d).tri → HoldsRound a hull (present (take i kept)) →
-    HoldsRound a next (present (take (i + 1) kept))
-hull-widened a kept i d hull next within is so_far =
-    let t = (get_or kept i d).tri in
-    subst (λ h. HoldsRound a h (present (take (i + 1) kept))) (sym is)
-    (round-more a kept i d (widened hull t) within (All-weaker (IsRound a hull) (IsRound a (widened hull t))
-    (λ u round has p corner. widened-wider hull t p (round has p corner)) (present (take i kept)) so_far)
-    (λ has. widened-corners hull t))
-
-pub hull-same : (a : Pt) (kept : List Kept) (i : ℕ) (d : Kept) (hull : Cube) → i < length kept →
-    has_corner a (get_or kept i d).tri ≡ false → HoldsRound a hull (present (take i kept)) →
-    HoldsRound a hull (present (take (i + 1) kept))
-hull-same a kept i d hull within hasnt so_far =
-    round-more a kept i d hull within so_far (λ has. absurd (clash (has_corner a (get_or kept i d).tri) has hasnt))
-
-target-held : (a b : Pt) (hull : Cube) (tris : List Tri) → has_edge tris a b ≡ true → HoldsRound a hull tris →
-    holds_point hull b ≡ true
-unfolding has_edge
-target-held a b hull tris edge round =
-    let any = Any-from_list_any (has_both a b) tris (and_parts (not (same_point a b)) _ edge).1 in
-    let both = and_parts (has_corner a any.1) (has_corner b any.1) any.4 in
-    All-contains (IsRound a hull) tris any.1 round (any.0, any.2, any.3) both.0 b both.1
-
--- outside the box a collapse changes no triangle round a point
-around-outside : (a b p : Pt) (hull : Cube) (tris : List Tri) → has_edge tris a b ≡ true → All IsGridTriangle tris →
-    HoldsRound a hull tris → holds_point hull p ≡ false → around p (collapsed a b tris) ≡ around p tris
-around-outside a b p hull tris edge grid round outside =
-    around-after a b p tris apart (All-weaker IsGridTriangle (λ t. has_distinct_corners t ≡ true)
-    (λ t g. (and_parts (has_grid_corners t) (has_distinct_corners t) g).1) tris grid)
-    (All-weaker (IsRound a hull) (λ t. has_corner a t ≡ true → has_corner p t ≡ false) hasnt tris round)
+no-number : (marks : List Bool) (n : ℕ) (f : Face) → HasMarkedCorners marks f → is_marked marks n ≡ false →
+    has_number n f ≡ false
+unfolding has_number
+no-number marks n f corners unmarked =
+    elim (cases_Bool (has_number n f)) [
+      | inl has ↦ absurd (at_number n f corners.a corners.b corners.c has)
+      | inr hasnt ↦ hasnt
+    ]
   where
-    apart : p ≢ b
-    apart e = clash (holds_point hull b) (target-held a b hull tris edge round) (subst (λ q. holds_point hull q ≡ false) e outside)
+    not_at : (m : ℕ) → is_marked marks m ≡ true → m == n ≡ true → ⊥
+    not_at m marked at = clash (is_marked marks m) marked (ap (is_marked marks) (equal_from m n at) ∙ unmarked)
 
-    hasnt : (t : Tri) → IsRound a hull t → has_corner a t ≡ true → has_corner p t ≡ false
-    hasnt t holds has =
-        elim (cases_Bool (has_corner p t)) [
-          | inl corner ↦ absurd (clash (holds_point hull p) (holds has p corner) outside)
-          | inr none ↦ none
+    at_number : (k : ℕ) (g : Face) → is_marked marks g.a ≡ true → is_marked marks g.b ≡ true →
+        is_marked marks g.c ≡ true → has_number n g ≡ true → ⊥
+    at_number k g a b c has =
+        elim (or_cases (g.a == n || g.b == n) (g.c == n) has) [
+          | inl front ↦
+              elim (or_cases (g.a == n) (g.b == n) front) [
+                | inl at ↦ not_at g.a a at
+                | inr at ↦ not_at g.b b at
+              ]
+          | inr at ↦ not_at g.c c at
         ]
 
--- ---- the points that are asked anew, and those that stay
+-- a point that isn't marked is the corner of no triangle with corner a
+no-corner-round : (marks : List Bool) (points : List Pt) (a n : ℕ) (faces : List Face) → IsAscending points →
+    a < length points → n < length points → All (IsNumbered (length points)) faces → AreMarkedRound a marks faces →
+    is_marked marks n ≡ false →
+    All (λ t. has_corner (point_at points a) t ≡ true → has_corner (point_at points n) t ≡ false) (tris_at points faces)
+no-corner-round marks points a n faces ascending in_a in_n all round unmarked =
+    All-map (λ t. has_corner (point_at points a) t ≡ true → has_corner (point_at points n) t ≡ false)
+    (tri_at points) faces (λ k d in_list has.
+    corner-number points n (get_or faces k d) ascending in_n (all k d in_list) ∙
+    no-number marks n (get_or faces k d)
+    (round k d in_list (sym (corner-number points a (get_or faces k d) ascending in_a (all k d in_list)) ∙ has)) unmarked)
 
--- the bests are those of all triangles where they are of the near ones
-pub anew-right : (a b : Pt) (hull : Cube) (kept : List Kept) (locked : List Pt) (near : List Tri)
-    (bests next : List Best) → has_edge (present kept) a b ≡ true → All IsGridTriangle (present kept) →
-    HoldsRound a hull (present kept) → near ≡ filter (reaches hull) (present (after a b kept)) →
-    ((tris : List Tri) → ((p : Pt) → holds_point hull p ≡ true → around p near ≡ around p tris) →
-    All (λ x. holds_point hull x.point ≡ false → IsRight tris locked x) bests → All (IsRight tris locked) next) →
-    All (IsRight (present kept) locked) bests → All (IsRight (present (after a b kept)) locked) next
-anew-right a b hull kept locked near bests next edge grid round is anew right =
-    anew (present (after a b kept))
-    (λ p held. ap (around p) is ∙ around-near hull p (present (after a b kept)) held)
-    (All-weaker (IsRight (present kept) locked)
-    (λ x. holds_point hull x.point ≡ false → IsRight (present (after a b kept)) locked x) stays bests right)
+-- the collapse leaves its triangles as they are
+around-unmarked : (marks : List Bool) (points : List Pt) (a b n : ℕ) (faces : List Face) → IsAscending points →
+    a < length points → n < length points → All (IsNumbered (length points)) faces →
+    All IsGridTriangle (tris_at points faces) → AreMarkedRound a marks faces → is_marked marks n ≡ false →
+    has_edge (tris_at points faces) (point_at points a) (point_at points b) ≡ true →
+    around (point_at points n) (collapsed (point_at points a) (point_at points b) (tris_at points faces)) ≡
+    around (point_at points n) (tris_at points faces)
+unfolding has_edge
+around-unmarked marks points a b n faces ascending in_a in_n all grid round unmarked edge =
+    around-after (point_at points a) (point_at points b) (point_at points n) (tris_at points faces) apart
+    (All-weaker IsGridTriangle (λ t. has_distinct_corners t ≡ true)
+    (λ t g. (and_parts (has_grid_corners t) (has_distinct_corners t) g).1) (tris_at points faces) grid) none
   where
-    stays : (x : Best) → IsRight (present kept) locked x → holds_point hull x.point ≡ false →
-        IsRight (present (after a b kept)) locked x
-    stays x here outside =
-        right-alike (present kept) (present (after a b kept)) locked x.point x.key
-        (sym (ap (around x.point) (present-after a b kept) ∙
-        around-outside a b x.point hull (present kept) edge grid round outside)) here
+    none : All (λ t. has_corner (point_at points a) t ≡ true → has_corner (point_at points n) t ≡ false) (tris_at points faces)
+    none = no-corner-round marks points a n faces ascending in_a in_n all round unmarked
+
+    apart : point_at points n ≢ point_at points b
+    apart e =
+        let any = Any-from_list_any (has_both (point_at points a) (point_at points b)) (tris_at points faces)
+        (and_parts (not (same_point (point_at points a) (point_at points b))) _ edge).1 in
+        let both = and_parts (has_corner (point_at points a) any.1) (has_corner (point_at points b) any.1) any.4 in
+        clash (has_corner (point_at points b) any.1) both.1 (ap (λ q. has_corner q any.1) (sym e) ∙
+        All-contains (λ t. has_corner (point_at points a) t ≡ true → has_corner (point_at points n) t ≡ false)
+        (tris_at points faces) any.1 none (any.0, any.2, any.3) both.0)
+
+pub tris_at-after : (points : List Pt) (a b : ℕ) (faces : List Face) → IsAscending points → a < length points →
+    b < length points → All (IsNumbered (length points)) faces → tris_at points (faces_after a b faces) ≡
+    collapsed (point_at points a) (point_at points b) (tris_at points faces)
+tris_at-after points a b faces ascending in_a in_b all =
+    sym (present-state_of [] points (faces_after a b faces)) ∙
+    ap present (state_of-after [] points a b faces ascending in_a in_b all) ∙
+    present-after (point_at points a) (point_at points b) (state_of [] points faces) ∙
+    ap (collapsed (point_at points a) (point_at points b)) (present-state_of [] points faces)
+
+-- where the marked points are asked anew, the least legal collapses are those after the collapse
+pub right-after : (marks : List Bool) (points locked : List Pt) (a b : ℕ) (faces : List Face)
+    (bests next : List (Option Key)) → IsAscending points → a < length points → b < length points →
+    All (IsNumbered (length points)) faces → All IsGridTriangle (tris_at points faces) →
+    AreMarkedRound a marks faces →
+    has_edge (tris_at points faces) (point_at points a) (point_at points b) ≡ true →
+    ((k : ℕ) → k < length points → is_marked marks k ≡ true →
+    IsBestAt (tris_at points (faces_after a b faces)) locked (point_at points k) (slice_index_or next k None)) →
+    ((k : ℕ) → is_marked marks k ≡ false → slice_index_or next k None ≡ slice_index_or bests k None) →
+    AreRight (tris_at points faces) locked points bests →
+    AreRight (tris_at points (faces_after a b faces)) locked points next
+right-after marks points locked a b faces bests next ascending in_a in_b all grid round edge asked others right = λ k in_k.
+    elim (cases_Bool (is_marked marks k)) [
+      | inl marked ↦ asked k in_k marked
+      | inr unmarked ↦ subst (IsBestAt (tris_at points (faces_after a b faces)) locked (point_at points k))
+          (sym (others k unmarked))
+          (right-alike (tris_at points faces) (tris_at points (faces_after a b faces)) locked (point_at points k)
+          (slice_index_or bests k None)
+          (sym (ap (around (point_at points k)) (tris_at-after points a b faces ascending in_a in_b all) ∙
+          around-unmarked marks points a b k faces ascending in_a in_k all grid round unmarked edge)) (right k in_k))
+    ]
+
+-- what is asked over the near triangles is so over all
+pub asked-near : (marks : List Bool) (points locked : List Pt) (faces : List Face) (next : List (Option Key)) →
+    IsAscending points → All (IsNumbered (length points)) faces →
+    ((k : ℕ) → k < length points → is_marked marks k ≡ true →
+    IsBestAt (tris_at points (filter (touches marks) faces)) locked (point_at points k) (slice_index_or next k None)) →
+    (k : ℕ) → k < length points → is_marked marks k ≡ true →
+    IsBestAt (tris_at points faces) locked (point_at points k) (slice_index_or next k None)
+asked-near marks points locked faces next ascending all asked k in_k marked =
+    right-alike (tris_at points (filter (touches marks) faces)) (tris_at points faces) locked (point_at points k)
+    (slice_index_or next k None) (around-near marks points k faces ascending in_k marked all) (asked k in_k marked)
 
 length-filtered : {X : Type 0} (p : X → Bool) (xs : List X) → length (filter p xs) ≤ length xs
 length-filtered p [] = omega arith
@@ -220,30 +237,35 @@ length-filtered {X = X} p (x ∷ xs) = by (p x) (filter p xs) (length-filtered p
     by true some h = omega arith
     by false some h = omega arith
 
-pub near-few : (a b : Pt) (hull : Cube) (kept : List Kept) →
-    length (filter (reaches hull) (present (after a b kept))) ≤ length kept
-unfolding after
-near-few a b hull kept =
-    let left = filter (λ (k : Kept). has_distinct_corners k.tri) (map (moved_to a b) kept) in
-    omega (
-      arith,
-      length-filtered (reaches hull) (present left),
-      length-map left (λ (k : Kept). k.tri),
-      length-filtered (λ (k : Kept). has_distinct_corners k.tri) (map (moved_to a b) kept),
-      length-map kept (moved_to a b),
-    )
+unmapped : {X Y : Type 0} (P : Y → Type 0) (f : X → Y) (xs : List X) → All P (map f xs) → All (λ x. P (f x)) xs
+unmapped P f xs all k d in_list =
+    subst P (get_or-map f xs k d (f d) in_list) (all k (f d) (omega (arith, length-map xs f)))
 
-pub near-grid : (a b : Pt) (hull : Cube) (kept : List Kept) → has_edge (present kept) a b ≡ true →
-    All IsGridTriangle (present kept) → All IsGridTriangle (filter (reaches hull) (present (after a b kept)))
-near-grid a b hull kept edge grid =
-    All-filter (reaches hull) IsGridTriangle (present (after a b kept))
-    (subst (All IsGridTriangle) (sym (present-after a b kept)) (IsGridTriangle-collapsed a b (present kept)
-    (IsGridPoint-corner b (present kept) (target-corner (present kept) a b edge) grid) grid))
+pub near-few : (marks : List Bool) (points : List Pt) (faces : List Face) →
+    length (tris_at points (filter (touches marks) faces)) ≤ length faces
+near-few marks points faces =
+    omega (arith, length-filtered (touches marks) faces, length-map (filter (touches marks) faces) (tri_at points))
 
-pub points-pushed : (bests : List Best) (i : ℕ) (d : Best) (next pushed : List Best) (x : Best) → i < length bests →
-    pushed ≡ next ++ x ∷ [] → points_in next ≡ points_in (take i bests) → x.point ≡ (get_or bests i d).point →
-    points_in pushed ≡ points_in (take (i + 1) bests)
-points-pushed bests i d next pushed x within push so_far same =
-    ap points_in push ∙ map-append (λ (y : Best). y.point) next (x ∷ []) ∙
-    ap (λ l. l ++ x.point ∷ []) so_far ∙ ap (λ p. points_in (take i bests) ++ p ∷ []) same ∙
-    sym (map_more (λ (y : Best). y.point) bests i d within)
+pub near-grid : (marks : List Bool) (points : List Pt) (faces : List Face) → All IsGridTriangle (tris_at points faces) →
+    All IsGridTriangle (tris_at points (filter (touches marks) faces))
+near-grid marks points faces grid =
+    All-map IsGridTriangle (tri_at points) (filter (touches marks) faces)
+    (All-filter (touches marks) (λ f. IsGridTriangle (tri_at points f)) faces
+    (unmapped IsGridTriangle (tri_at points) faces grid))
+
+-- ---- the faces after a collapse
+
+pub after-few : (a b : ℕ) (faces : List Face) → length (faces_after a b faces) ≤ length faces
+after-few a b faces =
+    omega (arith, length-filtered has_distinct_numbers (map (face_to a b) faces), length-map faces (face_to a b))
+
+pub after-grid : (points : List Pt) (a b : ℕ) (faces : List Face) → IsAscending points → a < length points →
+    b < length points → All (IsNumbered (length points)) faces → All IsGridTriangle (tris_at points faces) →
+    has_edge (tris_at points faces) (point_at points a) (point_at points b) ≡ true →
+    All IsGridTriangle (tris_at points (faces_after a b faces))
+after-grid points a b faces ascending in_a in_b all grid edge =
+    let p = point_at points a in
+    let q = point_at points b in
+    subst (All IsGridTriangle) (sym (tris_at-after points a b faces ascending in_a in_b all))
+    (IsGridTriangle-collapsed p q (tris_at points faces)
+    (IsGridPoint-corner q (tris_at points faces) (target-corner (tris_at points faces) p q edge) grid) grid)

@@ -1,29 +1,38 @@
-ghost use Rattle.std.specs.Prelude.{◌≡◌, ◌≤◌, IfOk, OnOk, IsTrue, true, List, length, map, All, Contains};
+ghost use Rattle.std.specs.Prelude.{◌≡◌, ◌≤◌, ◌<◌, ◌*◌, IfOk, OnOk, IsTrue, ℕ, true, false, None, List, length, map, All};
+ghost use Rattle.std.specs.Prelude.{AllPairs, Contains, slice_index_or};
+ghost use Rattle.std.specs.declared.cmp.Ordering.TheVariants.{Less};
 ghost use Rattle.geom_core.specs.declared.limits.TheConstants.{TRIANGLES_PER_GROUP};
 ghost use Rattle.geom_core.specs.declared.points.Pt.{Pt};
-ghost use Rattle.geom_core.specs.Corners.{IsCornerIn};
+ghost use Rattle.geom_core.specs.declared.triangles.Tagged.{Tagged};
 ghost use Rattle.geom_core.specs.EdgeSum.{edge_sum, OnRim};
 ghost use Rattle.geom_core.specs.Limits.{IsGridTriangle};
+ghost use Rattle.geom_core.specs.Order.{point_cmp};
 ghost use Rattle.geom_core.specs.TaggedLists.{tris_of};
 ghost use Rattle.rim_collapse.specs.declared.states.Kept.{Kept};
-ghost use Rattle.rim_collapse.specs.Internal.Bests.{IsRight, points_in};
+ghost use Rattle.rim_collapse.specs.Internal.Bests.{AreRight, IsBestAt};
+ghost use Rattle.rim_collapse.specs.Internal.Faces.{IsNumbered, point_at, state_of, tris_at};
+ghost use Rattle.rim_collapse.specs.Internal.Marks.{is_marked};
 ghost use Rattle.rim_collapse.specs.Internal.Steps.{IsNextOf};
 ghost use Rattle.rim_collapse.specs.Legal.{has_edge, is_among};
 ghost use Rattle.rim_collapse.specs.Moved.{moved_of};
 ghost use Rattle.rim_collapse.specs.Simplified.{IsSimplified};
 ghost use Rattle.rim_collapse.specs.Sound.{IsSound};
-ghost use Rattle.rim_collapse.specs.States.{after, begun, present, tagged_of};
+ghost use Rattle.rim_collapse.specs.States.{after, tagged_of};
 
-use crate::bests::{Best, bests_of, least_best, list_anew};
+use crate::bests::{least_best, refresh};
+use crate::faces::{Face, faces_of, kept_of, list_after};
 use crate::facets::Facet;
 use crate::keys::Key;
-use crate::near::{hull_round, list_near};
-use crate::points::points_of;
-use crate::states::{Kept, begun, list_after, list_present, moved, tagged};
+use crate::marks::{list_near, mark_block, mark_round};
+use crate::points::{number_of, points_of};
+use crate::states::{Kept, moved, tagged};
 use geom_core::{Memory, Pt, Tagged, TaggedTris, Tri};
 use std::alloc::Global;
 use std::collections::BTreeSet;
 use std::mem;
+
+/// Points whose collapses are asked for at once at the start: their triangles are listed by one pass over all.
+const BLOCK: usize = 16;
 
 /// A simplified list.
 #[derive(Debug, Drop)]
@@ -38,82 +47,129 @@ pub struct Simplified {
 /// Lists that are filled anew for each collapse, so that they take memory only once.
 #[derive(Drop)]
 struct Scratch {
-    /// The triangles near the collapse.
+    /// The points that are asked anew, by number.
+    marks: Vec<bool>,
+    /// The triangles that have a marked corner.
     near: Vec<Tri>,
     /// The triangles round one point.
     facets: Vec<Facet>,
-    /// The state after a collapse.
-    kept: Vec<Kept>,
-    /// The points' least legal collapses after a collapse.
-    bests: Vec<Best>,
+}
+
+/// Asks the marked points for their least legal collapses, over the triangles near them; only the triangles round a
+/// point decide its collapses.
+fn ask_marked(
+    bests: &mut Vec<Option<Key>>,
+    scratch: &mut Scratch,
+    points: &[Pt],
+    faces: &[Face],
+    locked: &BTreeSet<Pt>,
+) -> Result<(), Memory>
+    requires count { length bests.old.items ≡ length points.now }
+    requires marks { length scratch.old.marks.items ≡ length points.now }
+    requires ascending { AllPairs (λ p q. point_cmp p q ≡ Less) points.now }
+    requires triangle_limit { length faces.now ≤ TRIANGLES_PER_GROUP }
+    requires numbers { All (IsNumbered (length points.now)) faces.now }
+    requires triangles { All IsGridTriangle (tris_at points.now faces.now) }
+    ensures count { OnOk result (length bests.new.items ≡ length points.now) }
+    ensures marks { OnOk result (scratch.new.marks ≡ scratch.old.marks) }
+    ensures asked { OnOk result ((k : ℕ) → k < length points.now →
+        is_marked scratch.old.marks.items k ≡ true →
+        IsBestAt (tris_at points.now faces.now) locked.now.keys (point_at points.now k)
+        (slice_index_or bests.new.items k None)) }
+    ensures others { OnOk result ((k : ℕ) → is_marked scratch.old.marks.items k ≡ false →
+        slice_index_or bests.new.items k None ≡ slice_index_or bests.old.items k None) }
+{
+    list_near(&mut scratch.near, points, faces, &scratch.marks)?;
+    refresh(
+        bests,
+        &mut scratch.facets,
+        points,
+        &scratch.near,
+        locked,
+        &scratch.marks,
+    )?;
+    Ok(())
+}
+
+/// Returns each point's least legal collapse, by number. Asks the points in blocks.
+fn first_bests(
+    alloc: Global,
+    scratch: &mut Scratch,
+    points: &[Pt],
+    faces: &[Face],
+    locked: &BTreeSet<Pt>,
+) -> Result<Vec<Option<Key>>, Memory>
+    requires marks { length scratch.old.marks.items ≡ length points.now }
+    requires ascending { AllPairs (λ p q. point_cmp p q ≡ Less) points.now }
+    requires triangle_limit { length faces.now ≤ TRIANGLES_PER_GROUP }
+    requires point_limit { length points.now ≤ 3 * TRIANGLES_PER_GROUP }
+    requires numbers { All (IsNumbered (length points.now)) faces.now }
+    requires triangles { All IsGridTriangle (tris_at points.now faces.now) }
+    ensures marks { IfOk result (λ bests. length scratch.new.marks.items ≡ length points.now) }
+    ensures count { IfOk result (λ bests. length bests.items ≡ length points.now) }
+    ensures right { IfOk result (λ bests.
+        AreRight (tris_at points.now faces.now) locked.now.keys points.now bests.items) }
+{
+    let mut bests = vec![in alloc; None; points.len()]?;
+    for block in 0..points.len().div_ceil(BLOCK) {
+        let start = block * BLOCK;
+        mark_block(&mut scratch.marks, start, start + BLOCK);
+        ask_marked(&mut bests, scratch, points, faces, locked)?;
+    }
+    Ok(bests)
 }
 
 /// Returns the next collapse, or `None` if at most half of the `count` triangles are left or no collapse is legal.
-fn next_collapse(kept: &[Kept], bests: &[Best], count: usize) -> Option<Key>
-    requires triangle_limit { length kept.now ≤ TRIANGLES_PER_GROUP }
-    requires points { (p : Pt) → IsCornerIn (present kept.now) p → Contains (points_in bests.now) p }
-    ensures { (locked : List Pt) → All (IsRight (present kept.now) locked) bests.now →
-        IsNextOf locked count kept.now result }
+fn next_collapse(faces: &[Face], bests: &[Option<Key>], count: usize) -> Option<Key>
+    requires triangle_limit { length faces.now ≤ TRIANGLES_PER_GROUP }
+    ensures { (tris : List Tagged) → (locked points : List Pt) →
+        All (IsNumbered (length points)) faces.now → length bests.now ≡ length points →
+        AreRight (tris_at points faces.now) locked points bests.now →
+        IsNextOf locked count (state_of tris points faces.now) result }
 {
-    if 2 * kept.len() <= count {
+    if 2 * faces.len() <= count {
         return None;
     }
     least_best(bests)
 }
 
-/// Lists the state after a collapse of a to b, and the points' least legal collapses there. Asks the points anew round
-/// which the collapse changes triangles, over the triangles near them; the least legal collapse of each other point
-/// stays, as only the triangles round a point decide it.
-fn list_step(
-    scratch: &mut Scratch,
-    kept: &[Kept],
-    bests: &[Best],
-    locked: &BTreeSet<Pt>,
-    a: Pt,
-    b: Pt,
-) -> Result<(), Memory>
-    requires triangle_limit { length kept.now ≤ TRIANGLES_PER_GROUP }
-    requires triangles { All IsGridTriangle (present kept.now) }
-    requires edge { has_edge (present kept.now) a b ≡ true }
-    ensures kept { OnOk result (scratch.new.kept.items ≡ after a b kept.now) }
-    ensures points { OnOk result (points_in scratch.new.bests.items ≡ points_in bests.now) }
-    ensures right { OnOk result (All (IsRight (present kept.now) locked.now.keys) bests.now →
-        All (IsRight (present (after a b kept.now)) locked.now.keys) scratch.new.bests.items) }
-{
-    let hull = hull_round(kept, a);
-    list_after(&mut scratch.kept, kept, a, b)?;
-    list_near(&mut scratch.near, &scratch.kept, hull)?;
-    list_anew(
-        &mut scratch.bests,
-        &mut scratch.facets,
-        bests,
-        &scratch.near,
-        locked,
-        hull,
-    )?;
-    Ok(())
-}
-
-/// Does a collapse of a to b.
+/// Does a collapse of a to b. Asks the points anew round which it changes triangles; the least legal collapse of each
+/// other point stays, as only the triangles round a point decide it.
 fn collapse(
-    kept: &mut Vec<Kept>,
-    bests: &mut Vec<Best>,
+    faces: &mut Vec<Face>,
+    next: &mut Vec<Face>,
+    bests: &mut Vec<Option<Key>>,
     scratch: &mut Scratch,
+    points: &[Pt],
     locked: &BTreeSet<Pt>,
     a: Pt,
     b: Pt,
 ) -> Result<(), Memory>
-    requires triangle_limit { length kept.old.items ≤ TRIANGLES_PER_GROUP }
-    requires triangles { All IsGridTriangle (present kept.old.items) }
-    requires edge { has_edge (present kept.old.items) a b ≡ true }
-    ensures kept { OnOk result (kept.new.items ≡ after a b kept.old.items) }
-    ensures points { OnOk result (points_in bests.new.items ≡ points_in bests.old.items) }
-    ensures right { OnOk result (All (IsRight (present kept.old.items) locked.now.keys) bests.old.items →
-        All (IsRight (present (after a b kept.old.items)) locked.now.keys) bests.new.items) }
+    requires triangle_limit { length faces.old.items ≤ TRIANGLES_PER_GROUP }
+    requires point_limit { length points.now ≤ 3 * TRIANGLES_PER_GROUP }
+    requires ascending { AllPairs (λ p q. point_cmp p q ≡ Less) points.now }
+    requires count { length bests.old.items ≡ length points.now }
+    requires marks { length scratch.old.marks.items ≡ length points.now }
+    requires numbers { All (IsNumbered (length points.now)) faces.old.items }
+    requires triangles { All IsGridTriangle (tris_at points.now faces.old.items) }
+    requires edge { has_edge (tris_at points.now faces.old.items) a b ≡ true }
+    ensures numbers { OnOk result (All (IsNumbered (length points.now)) faces.new.items) }
+    ensures was { OnOk result ((count : ℕ) →
+        All (λ f. f.was < count) faces.old.items → All (λ f. f.was < count) faces.new.items) }
+    ensures state { OnOk result ((tris : List Tagged) →
+        state_of tris points.now faces.new.items ≡ after a b (state_of tris points.now faces.old.items)) }
+    ensures count { OnOk result (length bests.new.items ≡ length points.now) }
+    ensures marks { OnOk result (length scratch.new.marks.items ≡ length points.now) }
+    ensures right { OnOk result (
+        AreRight (tris_at points.now faces.old.items) locked.now.keys points.now bests.old.items →
+        AreRight (tris_at points.now faces.new.items) locked.now.keys points.now bests.new.items) }
 {
-    list_step(scratch, kept, bests, locked, a, b)?;
-    mem::swap(kept, &mut scratch.kept);
-    mem::swap(bests, &mut scratch.bests);
+    let from = number_of(points, a);
+    let to = number_of(points, b);
+    mark_round(&mut scratch.marks, faces, from);
+    list_after(next, faces, from, to)?;
+    mem::swap(faces, next);
+    ask_marked(bests, scratch, points, faces, locked)?;
     Ok(())
 }
 
@@ -123,32 +179,28 @@ fn end_state(alloc: Global, tris: &[Tagged], locked: &BTreeSet<Pt>) -> Result<Ve
     requires triangles { All IsGridTriangle (tris_of tris.now) }
     ensures { IfOk result (λ kept. IsSimplified tris.now locked.now.keys kept.items) }
 {
-    let mut kept = begun(alloc, tris)?;
+    let points = points_of(alloc, tris)?;
+    let mut faces = faces_of(alloc, &points, tris)?;
+    let mut next = Vec::new(alloc);
     let mut scratch = Scratch {
+        marks: vec![in alloc; false; points.len()]?,
         near: Vec::new(alloc),
         facets: Vec::new(alloc),
-        kept: Vec::new(alloc),
-        bests: Vec::new(alloc),
     };
-    list_present(&mut scratch.near, &kept)?;
-    let points = points_of(alloc, &scratch.near)?;
-    let mut bests = bests_of(
-        alloc,
-        &mut scratch.facets,
-        &scratch.near,
-        locked,
-        &points,
-    )?;
-    'collapses: while let Some(key) = next_collapse(&kept, &bests, tris.len()) {
+    let mut bests = first_bests(alloc, &mut scratch, &points, &faces, locked)?;
+    'collapses: while let Some(key) = next_collapse(&faces, &bests, tris.len()) {
         collapse(
-            &mut kept,
+            &mut faces,
+            &mut next,
             &mut bests,
             &mut scratch,
+            &points,
             locked,
             key.from,
             key.to,
         )?;
     }
+    let kept = kept_of(alloc, tris, &points, &faces)?;
     Ok(kept)
 }
 
