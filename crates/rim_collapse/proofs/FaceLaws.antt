@@ -1,5 +1,5 @@
 -- Faces are triangles: what holds of numbers holds of the points that they stand for.
-use Rattle.std.proofs.Common.{◌≡◌, inl, inr, ℕ, zero, suc, ◌+◌, ◌<◌, Bool, true, false, List, [], ◌∷◌, ◌++◌, Result, Ok, Err, filter, map, take, length, get_or, cond, if◌then◌else◌, All, AllPairs, Contains, refl, sym, ap, ◌∙◌, subst, arith}
+use Rattle.std.proofs.Common.{◌≡◌, inl, inr, ℕ, zero, suc, ◌+◌, ◌<◌, Bool, true, false, List, [], ◌∷◌, ◌++◌, Result, Ok, Err, take, length, get_or, if◌then◌else◌, All, AllPairs, Contains, refl, sym, ap, ◌∙◌, arith}
 use Rattle.std.specs.Bool.{◌==◌}
 use Rattle.std.specs.Ordering.{is_eq}
 use Rattle.std.specs.declared.cmp.Ordering.TheVariants.{Less}
@@ -11,7 +11,6 @@ use Rattle.std.proofs.lemmas.List.Sorted.{searchable_from_sorted}
 use Rattle.std.specs.List.Sorted.{IsBinarySearchResult}
 use Rattle.std.proofs.lemmas.List.Elements.{All-head, All-tail, All-cons, All-nil, Contains-get_or}
 use Rattle.geom_core.specs.declared.points.Pt.{Pt}
-use Rattle.geom_core.specs.declared.triangles.Tri.{Tri}
 use Rattle.geom_core.specs.declared.triangles.Tagged.{Tagged}
 use Rattle.geom_core.specs.Collapses.{replaced, replaced_point}
 use Rattle.geom_core.specs.Corners.{has_corner, IsCornerIn}
@@ -24,7 +23,7 @@ use Rattle.geom_core.specs.TaggedLists.{tris_of}
 use Rattle.half_mesh.proofs.TableLaws.{searched_none, sorted_points}
 use Rattle.rim_collapse.specs.declared.faces.Face.{Face}
 use Rattle.rim_collapse.specs.declared.states.Kept.{Kept}
-use Rattle.rim_collapse.specs.States.{after, begun, moved_to, present}
+use Rattle.rim_collapse.specs.States.{after, begun, present}
 use Rattle.rim_collapse.proofs.Following.{present-begun}
 use Rattle.rim_collapse.specs.Internal.Faces.{IsNumbered, face_to, faces_after, has_distinct_numbers, has_number, kept_at, no_triangle, origin, point_at, renumbered, state_of, tagged_at, tri_at, tris_at}
 

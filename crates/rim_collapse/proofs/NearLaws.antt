@@ -19,7 +19,7 @@ use Rattle.rim_collapse.specs.declared.faces.Face.{Face}
 use Rattle.rim_collapse.specs.declared.keys.Key.{Key}
 use Rattle.rim_collapse.specs.Cost.{around}
 use Rattle.rim_collapse.specs.Legal.{has_both, has_edge}
-use Rattle.rim_collapse.specs.States.{after, present}
+use Rattle.rim_collapse.specs.States.{present}
 use Rattle.rim_collapse.specs.Internal.Bests.{AreRight, IsBestAt}
 use Rattle.rim_collapse.specs.Internal.Faces.{IsNumbered, face_to, faces_after, has_distinct_numbers, has_number, point_at, state_of, tri_at, tris_at}
 use Rattle.rim_collapse.specs.Internal.Marks.{AreMarkedRound, HasMarkedCorners, is_marked, touches}

@@ -1,22 +1,22 @@
 -- The next collapse among those of all points, and the state after it.
-use Rattle.std.proofs.Common.{◌≡◌, inl, inr, ℕ, ◌+◌, ◌*◌, ◌<◌, ◌≤◌, Bool, true, false, not, ◌&&◌, if◌then◌else◌, List, [], ◌∷◌, ◌++◌, map, flat_map, filter, cond, max, Ordering, take, length, get_or, All, Any, Contains, IsTrue, Option, Some, None, refl, sym, ap, ◌∙◌, subst, arith}
+use Rattle.std.proofs.Common.{◌≡◌, inr, ℕ, ◌+◌, ◌*◌, ◌<◌, ◌≤◌, Bool, true, false, not, ◌&&◌, if◌then◌else◌, List, [], ◌∷◌, ◌++◌, flat_map, max, Ordering, take, length, get_or, All, Any, Contains, IsTrue, Option, Some, None, refl, sym, ap, ◌∙◌, subst, arith}
 use Prim.Native.Nat.{zero, suc}
 use Rattle.std.specs.List.{list_any}
 use Rattle.std.specs.Ordering.{is_eq, is_lt, ordering_reverse}
 use Rattle.std.specs.declared.cmp.Ordering.TheVariants.{Less, Equal, Greater}
 use Rattle.std.proofs.lemmas.Bool.{and_parts}
-use Rattle.std.proofs.lemmas.List.Elements.{All-contains, All-more, All-weaker, Contains-append_left, Contains-append_right, filter-append}
-use Rattle.std.proofs.lemmas.List.{append-nil, get_or_default, get_or-map, length-map, map-append, take_more}
+use Rattle.std.proofs.lemmas.List.Elements.{All-contains, All-more, All-weaker, Contains-append_left, Contains-append_right}
+use Rattle.std.proofs.lemmas.List.{get_or_default, take_more}
 use Rattle.std.proofs.lemmas.List.Folds.{Any-from_list_any}
 use Rattle.std.proofs.lemmas.List.Sorted.{ranks_by}
 use Rattle.geom_core.specs.declared.points.Pt.{Pt}
 use Rattle.geom_core.specs.declared.triangles.Tri.{Tri}
 use Rattle.geom_core.specs.declared.triangles.Tagged.{Tagged}
 use Rattle.geom_core.specs.TaggedLists.{tris_of}
-use Rattle.geom_core.specs.Collapses.{collapsed, replaced}
+use Rattle.geom_core.specs.Collapses.{collapsed}
 use Rattle.geom_core.specs.Corners.{has_corner, IsCornerIn}
 use Rattle.geom_core.specs.EdgeSum.{same_point}
-use Rattle.geom_core.proofs.CollapseCorners.{at_corner, collapsed-corners}
+use Rattle.geom_core.proofs.CollapseCorners.{at_corner}
 use Rattle.geom_core.proofs.CollapseCounts.{length-lt-collapsed}
 use Rattle.geom_core.specs.Limits.{IsGridTriangle}
 use Rattle.geom_core.specs.Order.{point_cmp}
@@ -36,7 +36,7 @@ use Rattle.rim_collapse.specs.Internal.Points.{corners_of}
 use Rattle.rim_collapse.specs.Internal.Steps.{IsNextOf}
 use Rattle.rim_collapse.proofs.BestLaws.{before-all}
 use Rattle.rim_collapse.proofs.Determined.{key_cmp-total}
-use Rattle.rim_collapse.proofs.Following.{edge-from_legal, present-after, state-length, state-triangles, target-corner}
+use Rattle.rim_collapse.proofs.Following.{edge-from_legal, present-after, state-length, state-triangles}
 
 -- ---- the least of several points' collapses
 

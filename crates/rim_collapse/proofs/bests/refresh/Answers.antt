@@ -1,4 +1,4 @@
-use Rattle.std.proofs.Common.{length, ◌∙◌, arith}
+use Rattle.std.proofs.Common.{◌∙◌, arith}
 use Rattle.std.proofs.lemmas.List.{length-set}
 use Rattle.rim_collapse.specs.Internal.Bests.{IsBestAt}
 use Rattle.rim_collapse.specs.Internal.Faces.{point_at}

@@ -1,5 +1,4 @@
-use Rattle.std.proofs.Common.{rules, ◌≡◌, ◌<◌, ◌≤◌, [], ◌∷◌, ◌++◌, None, true, sym, ap, subst, ◌∙◌, length, All, Contains, arith}
-use Rattle.geom_core.specs.Corners.{IsCornerIn}
+use Rattle.std.proofs.Common.{rules, ◌≡◌, [], ◌∷◌, ◌++◌, None, true, sym, ap, subst, ◌∙◌, length, All, Contains, arith}
 use Rattle.geom_core.specs.Limits.{IsGridTriangle}
 use Rattle.rim_collapse.specs.Legal.{has_edge}
 use Rattle.rim_collapse.specs.Simplified.{IsNext, Lead}
