@@ -149,7 +149,8 @@ unfolding after
 state_of-after tris points a b [] ascending in_a in_b all = refl
 state_of-after tris points a b (f ∷ faces) ascending in_a in_b all =
     let numbered = All-head (IsNumbered (length points)) f faces all in
-    let rest = state_of-after tris points a b faces ascending in_a in_b (All-tail (IsNumbered (length points)) f faces all) in
+    let rest = state_of-after tris points a b faces ascending in_a in_b
+    (All-tail (IsNumbered (length points)) f faces all) in
     let is = replaced-face points a b f ascending in_a numbered in
     let distinct : has_distinct_corners (replaced (point_at points a) (point_at points b) (tri_at points f)) ≡
     has_distinct_numbers (face_to a b f) =
@@ -212,11 +213,17 @@ listed-found points p (Err i) n position ascending listed is =
 pub corner-of_tagged : (tris : List Tagged) (i : ℕ) (d : Tagged) (p : Pt) → i < length tris →
     has_corner p (get_or tris i d).tri ≡ true → IsCornerIn (tris_of tris) p
 corner-of_tagged tris i d p within has =
-    let t = (get_or tris i d).tri in
-    (i, t, omega (arith, length-map tris (λ (u : Tagged). u.tri)), get_or-map (λ (u : Tagged). u.tri) tris i d t within, has)
+    let t = (get_or tris i d).tri in (
+      i,
+      t,
+      omega (arith, length-map tris (λ (u : Tagged). u.tri)),
+      get_or-map (λ (u : Tagged). u.tri) tris i d t within,
+      has,
+    )
 
 -- one more face
-pub state_of-pushed : (tris : List Tagged) (points : List Pt) (faces pushed : List Face) (i : ℕ) (d : Tagged) (f : Face) →
+pub state_of-pushed : (tris : List Tagged) (points : List Pt) (faces pushed : List Face) (i : ℕ)
+    (d : Tagged) (f : Face) →
     i < length tris → pushed ≡ faces ++ f ∷ [] → state_of tris points faces ≡ begun (take i tris) →
     tri_at points f ≡ (get_or tris i d).tri → f.was ≡ i →
     state_of tris points pushed ≡ begun (take (i + 1) tris)

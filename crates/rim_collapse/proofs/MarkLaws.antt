@@ -17,7 +17,8 @@ pub round-widened : (a : ℕ) (faces : List Face) (i : ℕ) (d : Face) (marks ne
     AreMarkedRound a marks (take i faces) → AreMarkedRound a next (take (i + 1) faces)
 round-widened a faces i d marks next within more here round =
     All-more (λ f. has_number a f ≡ true → HasMarkedCorners next f) faces i d within
-    (All-weaker (λ f. has_number a f ≡ true → HasMarkedCorners marks f) (λ f. has_number a f ≡ true → HasMarkedCorners next f)
+    (All-weaker (λ f. has_number a f ≡ true → HasMarkedCorners marks f)
+    (λ f. has_number a f ≡ true → HasMarkedCorners next f)
     (λ f corners has. record {
       a = more f.a (corners has).a;
       b = more f.b (corners has).b;

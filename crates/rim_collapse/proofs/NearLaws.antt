@@ -57,7 +57,8 @@ pub around-near : (marks : List Bool) (points : List Pt) (n : ℕ) (faces : List
 around-near marks points n [] ascending within marked all = refl
 around-near marks points n (f ∷ faces) ascending within marked all =
     let is = corner-number points n f ascending within (All-head (IsNumbered (length points)) f faces all) in
-    let rest = around-near marks points n faces ascending within marked (All-tail (IsNumbered (length points)) f faces all) in
+    let rest = around-near marks points n faces ascending within marked
+    (All-tail (IsNumbered (length points)) f faces all) in
     elim (cases_Bool (has_number n f)) [
       | inl has ↦ rw (touches-number marks n f marked has, is ∙ has, rest)
       | inr hasnt ↦
@@ -160,7 +161,8 @@ no-corner-round marks points a n faces ascending in_a in_n all round unmarked =
     (tri_at points) faces (λ k d in_list has.
     corner-number points n (get_or faces k d) ascending in_n (all k d in_list) ∙
     no-number marks n (get_or faces k d)
-    (round k d in_list (sym (corner-number points a (get_or faces k d) ascending in_a (all k d in_list)) ∙ has)) unmarked)
+    (round k d in_list (sym (corner-number points a (get_or faces k d) ascending in_a (all k d in_list)) ∙ has))
+    unmarked)
 
 -- the collapse leaves its triangles as they are
 around-unmarked : (marks : List Bool) (points : List Pt) (a b n : ℕ) (faces : List Face) → IsAscending points →
@@ -175,7 +177,8 @@ around-unmarked marks points a b n faces ascending in_a in_n all grid round unma
     (All-weaker IsGridTriangle (λ t. has_distinct_corners t ≡ true)
     (λ t g. (and_parts (has_grid_corners t) (has_distinct_corners t) g).1) (tris_at points faces) grid) none
   where
-    none : All (λ t. has_corner (point_at points a) t ≡ true → has_corner (point_at points n) t ≡ false) (tris_at points faces)
+    none : All (λ t. has_corner (point_at points a) t ≡ true → has_corner (point_at points n) t ≡ false)
+        (tris_at points faces)
     none = no-corner-round marks points a n faces ascending in_a in_n all round unmarked
 
     apart : point_at points n ≢ point_at points b
@@ -207,7 +210,8 @@ pub right-after : (marks : List Bool) (points locked : List Pt) (a b : ℕ) (fac
     ((k : ℕ) → is_marked marks k ≡ false → slice_index_or next k None ≡ slice_index_or bests k None) →
     AreRight (tris_at points faces) locked points bests →
     AreRight (tris_at points (faces_after a b faces)) locked points next
-right-after marks points locked a b faces bests next ascending in_a in_b all grid round edge asked others right = λ k in_k.
+right-after marks points locked a b faces bests next ascending in_a in_b all grid round edge asked others right =
+    λ k in_k.
     elim (cases_Bool (is_marked marks k)) [
       | inl marked ↦ asked k in_k marked
       | inr unmarked ↦ subst (IsBestAt (tris_at points (faces_after a b faces)) locked (point_at points k))
@@ -233,7 +237,8 @@ length-filtered : {X : Type 0} (p : X → Bool) (xs : List X) → length (filter
 length-filtered p [] = omega arith
 length-filtered {X = X} p (x ∷ xs) = by (p x) (filter p xs) (length-filtered p xs)
   where
-    by : (passes : Bool) (some : List X) → length some ≤ length xs → length (cond passes (x ∷ some) some) ≤ length (x ∷ xs)
+    by : (passes : Bool) (some : List X) → length some ≤ length xs →
+        length (cond passes (x ∷ some) some) ≤ length (x ∷ xs)
     by true some h = omega arith
     by false some h = omega arith
 

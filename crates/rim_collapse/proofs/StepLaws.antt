@@ -151,8 +151,8 @@ next-of locked n state points (Some k) many covered best = record {
 }
 
 -- what is found over the listed faces and bests is the next collapse
-pub found-next : (tris : List Tagged) (locked points : List Pt) (faces seen : List Face) (bests asked : List (Option Key))
-    (found : Option Key) → seen ≡ faces → asked ≡ bests →
+pub found-next : (tris : List Tagged) (locked points : List Pt) (faces seen : List Face)
+    (bests asked : List (Option Key)) (found : Option Key) → seen ≡ faces → asked ≡ bests →
     ((given : List Tagged) (held listed : List Pt) → All (IsNumbered (length listed)) seen →
     length asked ≡ length listed → AreRight (tris_at listed seen) held listed asked →
     IsNextOf held (length tris) (state_of given listed seen) found) →

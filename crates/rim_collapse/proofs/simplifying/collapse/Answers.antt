@@ -52,7 +52,8 @@ ask_marked-requires-clause-triangle_limit c =
 
 pub ask_marked-requires-clause-numbers : goal.ask_marked-requires-clause-numbers
 ask_marked-requires-clause-numbers c =
-    subst (All (IsNumbered (length c.args.points.now))) (sym (listed c)) (numbered (length c.args.points.now) c.number_of-from.result
+    subst (All (IsNumbered (length c.args.points.now))) (sym (listed c))
+    (numbered (length c.args.points.now) c.number_of-from.result
     c.number_of-to.result c.args.faces.now.items c.number_of-to.ensures.number c.requires.numbers)
 
 pub ask_marked-requires-clause-triangles : goal.ask_marked-requires-clause-triangles
@@ -60,12 +61,14 @@ ask_marked-requires-clause-triangles c =
     subst (λ l. All IsGridTriangle (tris_at c.args.points.now l)) (sym (listed c))
     (after-grid c.args.points.now c.number_of-from.result c.number_of-to.result c.args.faces.now.items
     c.requires.ascending c.number_of-from.ensures.number c.number_of-to.ensures.number c.requires.numbers
-    c.requires.triangles (edge_at c.args.points.now c.args.faces.now.items _ _ c.args.a c.args.b c.number_of-from.ensures.point
+    c.requires.triangles
+    (edge_at c.args.points.now c.args.faces.now.items _ _ c.args.a c.args.b c.number_of-from.ensures.point
     c.number_of-to.ensures.point c.requires.edge))
 
 pub returns-clause-numbers : goal.returns-clause-numbers
 returns-clause-numbers c =
-    subst (All (IsNumbered (length c.args.points.now))) (sym (swapped c)) (numbered (length c.args.points.now) c.number_of-from.result
+    subst (All (IsNumbered (length c.args.points.now))) (sym (swapped c))
+    (numbered (length c.args.points.now) c.number_of-from.result
     c.number_of-to.result c.args.faces.now.items c.number_of-to.ensures.number c.requires.numbers)
 
 pub returns-clause-was : goal.returns-clause-was
@@ -98,7 +101,9 @@ returns-clause-right c = λ right.
     subst (λ l. AreRight (tris_at points l) keys points next) (sym (swapped c))
     (right-after marks points keys from to faces c.args.bests.now.items next c.requires.ascending
     c.number_of-from.ensures.number c.number_of-to.ensures.number c.requires.numbers c.requires.triangles
-    (subst (AreMarkedRound from marks) c.deref.ensures.value c.mark_round.ensures.round) (edge_at c.args.points.now c.args.faces.now.items _ _ c.args.a c.args.b c.number_of-from.ensures.point
+    (subst (AreMarkedRound from marks) c.deref.ensures.value c.mark_round.ensures.round)
+    (edge_at c.args.points.now c.args.faces.now.items _ _ c.args.a c.args.b c.number_of-from.ensures.point
     c.number_of-to.ensures.point c.requires.edge)
     (λ k in_k marked. subst (λ l. IsBestAt (tris_at points l) keys (point_at points k) (slice_index_or next k None))
-    (c.deref-3.ensures.value ∙ swapped c) (c.in_ok-ask_marked.ensures.asked k in_k marked)) c.in_ok-ask_marked.ensures.others right)
+    (c.deref-3.ensures.value ∙ swapped c) (c.in_ok-ask_marked.ensures.asked k in_k marked))
+    c.in_ok-ask_marked.ensures.others right)
