@@ -73,6 +73,22 @@ best-alike xs ys a tried (Some k) same best = (
       best.2 q was_tried (open-alike xs ys a q same ∙ opens),
 )
 
+legal-alike : (xs ys : List Tri) (locked : List Pt) (a b : Pt) → around a xs ≡ around a ys →
+    is_legal_collapse xs locked a b ≡ is_legal_collapse ys locked a b
+unfolding has_edge is_legal
+legal-alike xs ys locked a b same =
+    rw (sym (edge-around a b xs), sym (legal-around a b xs), sym (edge-around a b ys), sym (legal-around a b ys), same)
+
+pub right-alike : (xs ys : List Tri) (locked : List Pt) (a : Pt) (best : Option Key) → around a xs ≡ around a ys →
+    IsBestAt xs locked a best → IsBestAt ys locked a best
+right-alike xs ys locked a None same best = λ q legal. best q (legal-alike xs ys locked a q same ∙ legal)
+right-alike xs ys locked a (Some k) same best = (
+  best.0 ∙ key-alike xs ys a k.to same,
+  sym (legal-alike xs ys locked a k.to same) ∙ best.1,
+  λ q legal. ap (λ l. is_lt (key_cmp l k)) (sym (key-alike xs ys a q same)) ∙
+      best.2 q (legal-alike xs ys locked a q same ∙ legal),
+)
+
 -- ---- fewer candidates
 
 pub best-fewer : (tris : List Tri) (a : Pt) (tried others : Pt → Bool) (best : Option Key) →

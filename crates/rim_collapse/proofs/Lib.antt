@@ -1,9 +1,12 @@
 pub mod BestLaws
 pub mod Determined
 pub mod Examples
+pub mod FaceLaws
 pub mod FacetLaws
 pub mod Following
 pub mod Listed
 pub mod ListedRows
+pub mod MarkLaws
+pub mod NearLaws
 pub mod Products
 pub mod StepLaws

@@ -1,37 +1,42 @@
 -- The next collapse among those of all points, and the state after it.
-use Rattle.std.proofs.Common.{◌≡◌, inl, inr, ℕ, ◌+◌, ◌*◌, ◌<◌, Bool, true, false, not, ◌&&◌, if◌then◌else◌, List, [], ◌∷◌, ◌++◌, map, flat_map, filter, cond, max, Ordering, take, length, get_or, All, Any, Contains, IsTrue, Option, Some, None, refl, sym, ap, ◌∙◌, subst, arith}
+use Rattle.std.proofs.Common.{◌≡◌, inr, ℕ, ◌+◌, ◌*◌, ◌<◌, ◌≤◌, Bool, true, false, not, ◌&&◌, if◌then◌else◌, List, [], ◌∷◌, ◌++◌, flat_map, max, Ordering, take, length, get_or, All, Any, Contains, IsTrue, Option, Some, None, refl, sym, ap, ◌∙◌, subst, arith}
 use Prim.Native.Nat.{zero, suc}
 use Rattle.std.specs.List.{list_any}
 use Rattle.std.specs.Ordering.{is_eq, is_lt, ordering_reverse}
 use Rattle.std.specs.declared.cmp.Ordering.TheVariants.{Less, Equal, Greater}
 use Rattle.std.proofs.lemmas.Bool.{and_parts}
-use Rattle.std.proofs.lemmas.List.Elements.{All-contains, All-more, All-weaker, Contains-append_left, Contains-append_right, filter-append}
-use Rattle.std.proofs.lemmas.List.{append-nil, map-append, take_more}
+use Rattle.std.proofs.lemmas.List.Elements.{All-contains, All-more, All-weaker, Contains-append_left, Contains-append_right}
+use Rattle.std.proofs.lemmas.List.{get_or_default, take_more}
 use Rattle.std.proofs.lemmas.List.Folds.{Any-from_list_any}
 use Rattle.std.proofs.lemmas.List.Sorted.{ranks_by}
 use Rattle.geom_core.specs.declared.points.Pt.{Pt}
 use Rattle.geom_core.specs.declared.triangles.Tri.{Tri}
-use Rattle.geom_core.specs.Collapses.{collapsed, replaced}
+use Rattle.geom_core.specs.declared.triangles.Tagged.{Tagged}
+use Rattle.geom_core.specs.TaggedLists.{tris_of}
+use Rattle.geom_core.specs.Collapses.{collapsed}
 use Rattle.geom_core.specs.Corners.{has_corner, IsCornerIn}
 use Rattle.geom_core.specs.EdgeSum.{same_point}
-use Rattle.geom_core.proofs.CollapseCorners.{at_corner, collapsed-corners}
+use Rattle.geom_core.proofs.CollapseCorners.{at_corner}
 use Rattle.geom_core.proofs.CollapseCounts.{length-lt-collapsed}
-use Rattle.geom_core.specs.Limits.{has_distinct_corners}
+use Rattle.geom_core.specs.Limits.{IsGridTriangle}
 use Rattle.geom_core.specs.Order.{point_cmp}
 use Rattle.geom_core.proofs.PointLaws.{point_cmp-total, same_point-is, same_point-refl}
+use Rattle.rim_collapse.specs.declared.faces.Face.{Face}
 use Rattle.rim_collapse.specs.declared.keys.Key.{Key}
 use Rattle.rim_collapse.specs.declared.states.Kept.{Kept}
 use Rattle.rim_collapse.specs.Cost.{key_cmp, key_of}
 use Rattle.rim_collapse.specs.Legal.{has_both, has_edge, is_among, is_legal_collapse}
 use Rattle.rim_collapse.specs.Moved.{moved_of, shift}
 use Rattle.rim_collapse.specs.Simplified.{IsNext, Lead}
-use Rattle.rim_collapse.specs.States.{after, moved_to, present}
-use Rattle.rim_collapse.specs.Internal.Bests.{IsBestAmong, IsBestAt, lesser_of}
+use Rattle.rim_collapse.specs.States.{after, begun, present}
+use Rattle.rim_collapse.specs.Internal.Bests.{AreRight, IsBestAmong, IsBestAt, lesser_of}
+use Rattle.rim_collapse.specs.Internal.Faces.{IsNumbered, origin, point_at, state_of, tris_at}
+use Rattle.rim_collapse.proofs.FaceLaws.{length-state_of, present-state_of}
 use Rattle.rim_collapse.specs.Internal.Points.{corners_of}
 use Rattle.rim_collapse.specs.Internal.Steps.{IsNextOf}
 use Rattle.rim_collapse.proofs.BestLaws.{before-all}
 use Rattle.rim_collapse.proofs.Determined.{key_cmp-total}
-use Rattle.rim_collapse.proofs.Following.{edge-from_legal, present-after, target-corner}
+use Rattle.rim_collapse.proofs.Following.{edge-from_legal, present-after, state-length, state-triangles}
 
 -- ---- the least of several points' collapses
 
@@ -91,6 +96,16 @@ among-more tris locked points i p (Some k) (Some l) within least best =
           (best.2 q legal) later),
     )
 
+pub least-more : (tris : List Tri) (locked points : List Pt) (bests : List (Option Key)) (i : ℕ) (d : Option Key)
+    (least : Option Key) → i < length bests → length bests ≡ length points → AreRight tris locked points bests →
+    IsBestAmong tris locked (take i points) least →
+    IsBestAmong tris locked (take (i + 1) points) (lesser_of least (get_or bests i d))
+unfolding point_at
+least-more tris locked points bests i d least within same right so_far =
+    among-more tris locked points i origin least (get_or bests i d) (omega arith) so_far
+    (subst (IsBestAt tris locked (get_or points i origin)) (get_or_default bests i None d within)
+    (right i (omega arith)))
+
 -- ---- points
 
 pub source-corner : (tris : List Tri) (a b : Pt) → has_edge tris a b ≡ true → IsCornerIn tris a
@@ -112,6 +127,10 @@ corners-listed p (t ∷ tris) (suc k, u, within, at, has) =
     Contains-append_right (corners_of t) (flat_map corners_of tris) p
     (corners-listed p tris (k, u, omega arith, at, has))
 
+pub length-corners : (tris : List Tagged) → length (flat_map corners_of (tris_of tris)) ≡ 3 * length tris
+length-corners [] = refl
+length-corners (t ∷ tris) = omega (arith, length-corners tris)
+
 -- ---- the next collapse
 
 pub next-of : (locked : List Pt) (n : ℕ) (state : List Kept) (points : List Pt) (best : Option Key) →
@@ -131,6 +150,45 @@ next-of locked n state points (Some k) many covered best = record {
   };
 }
 
+-- what is found over the listed faces and bests is the next collapse
+pub found-next : (tris : List Tagged) (locked points : List Pt) (faces seen : List Face)
+    (bests asked : List (Option Key)) (found : Option Key) → seen ≡ faces → asked ≡ bests →
+    ((given : List Tagged) (held listed : List Pt) → All (IsNumbered (length listed)) seen →
+    length asked ≡ length listed → AreRight (tris_at listed seen) held listed asked →
+    IsNextOf held (length tris) (state_of given listed seen) found) →
+    All (IsNumbered (length points)) faces → length bests ≡ length points →
+    AreRight (tris_at points faces) locked points bests →
+    IsNextOf locked (length tris) (state_of tris points faces) found
+found-next tris locked points faces seen bests asked found same_faces same_bests next numbered count right =
+    subst (λ l. IsNextOf locked (length tris) (state_of tris points l) found) same_faces
+    (next tris locked points (subst (All (IsNumbered (length points))) (sym same_faces) numbered)
+    (ap length same_bests ∙ count)
+    (subst (λ l. AreRight (tris_at points l) locked points asked) (sym same_faces)
+    (subst (AreRight (tris_at points faces) locked points) (sym same_bests) right)))
+
+-- the faces that some collapses leave
+pub left-few : (tris : List Tagged) (locked points : List Pt) (faces : List Face) (collapses : List (Pt × Pt)) →
+    All IsGridTriangle (tris_of tris) →
+    Lead locked (length tris) collapses (begun tris) (state_of tris points faces) → length faces ≤ length tris
+left-few tris locked points faces collapses grid lead =
+    omega (
+      arith,
+      state-length tris locked (length tris) collapses (state_of tris points faces) grid lead,
+      length-state_of tris points faces,
+    )
+
+pub left-grid : (tris : List Tagged) (locked points : List Pt) (faces : List Face) (collapses : List (Pt × Pt)) →
+    All IsGridTriangle (tris_of tris) →
+    Lead locked (length tris) collapses (begun tris) (state_of tris points faces) →
+    All IsGridTriangle (tris_at points faces)
+left-grid tris locked points faces collapses grid lead =
+    subst (All IsGridTriangle) (present-state_of tris points faces)
+    (state-triangles tris locked (length tris) collapses (state_of tris points faces) grid lead)
+
+pub length-tris_of : (tris : List Tagged) → length (tris_of tris) ≡ length tris
+length-tris_of [] = refl
+length-tris_of (t ∷ tris) = omega (arith, length-tris_of tris)
+
 pub lead-more : (locked : List Pt) (n : ℕ) (collapses : List (Pt × Pt)) (state middle : List Kept) (a b : Pt) →
     Lead locked n collapses state middle → IsNext locked n middle a b →
     Lead locked n (collapses ++ (a, b) ∷ []) state (after a b middle)
@@ -139,16 +197,6 @@ lead-more locked n [] state middle a b lead next =
     (subst (λ s. IsNext locked n s a b) (sym lead) next, ap (after a b) lead)
 lead-more locked n (c ∷ collapses) state middle a b lead next =
     (lead.0, lead-more locked n collapses (after c.0 c.1 state) middle a b lead.1 next)
-
-pub covered-more : (locked : List Pt) (n : ℕ) (state : List Kept) (points : List Pt) (a b : Pt) →
-    IsNext locked n state a b → ((p : Pt) → IsCornerIn (present state) p → Contains points p) → (p : Pt) →
-    IsCornerIn (present (after a b state)) p → Contains points p
-covered-more locked n state points a b next covered p corner =
-    elim (collapsed-corners a b p (present state) (subst (λ l. IsCornerIn l p) (present-after a b state) corner)) [
-      | inl at ↦ subst (Contains points) (sym at) (covered b (target-corner (present state) a b
-          (edge-from_legal (present state) locked a b next.least.legal)))
-      | inr there ↦ covered p there
-    ]
 
 edge_apart : (tris : List Tri) (a b : Pt) → has_edge tris a b ≡ true → a ≡ b → ⊥
 unfolding has_edge
@@ -191,33 +239,6 @@ among-is p (q ∷ points) = rw (each q, among-is p points)
 
     each : (r : Pt) → is_eq (point_cmp p r) ≡ same_point r p
     each r = ap is_eq (point_cmp-total.antisymm p r) ∙ turned (point_cmp r p) ∙ sym (same_point-is r p)
-
--- ---- listing the state after a collapse
-
-after-more : (a b : Pt) (kept : List Kept) (i : ℕ) (d : Kept) → i < length kept → after a b (take (i + 1) kept) ≡
-    after a b (take i kept) ++
-    cond (has_distinct_corners (replaced a b (get_or kept i d).tri)) (moved_to a b (get_or kept i d) ∷ []) []
-unfolding after
-after-more a b kept i d within =
-    ap (λ l. filter (λ k. has_distinct_corners k.tri) (map (moved_to a b) l)) (take_more kept i d within) ∙
-    ap (filter (λ k. has_distinct_corners k.tri)) (map-append (moved_to a b) (take i kept) (get_or kept i d ∷ [])) ∙
-    filter-append (λ (k : Kept). has_distinct_corners k.tri) (map (moved_to a b) (take i kept))
-    (moved_to a b (get_or kept i d) ∷ [])
-
-pub after-pushed : (a b : Pt) (kept : List Kept) (i : ℕ) (d : Kept) (next pushed : List Kept) (t : Tri) →
-    i < length kept → next ≡ after a b (take i kept) → t ≡ replaced a b (get_or kept i d).tri →
-    has_distinct_corners t ≡ true → pushed ≡ next ++ record { tri = t; was = (get_or kept i d).was } ∷ [] →
-    pushed ≡ after a b (take (i + 1) kept)
-after-pushed a b kept i d next pushed t within so_far is distinct push =
-    rw (after-more a b kept i d within, sym is, distinct, push, so_far, is)
-
-pub after-skipped : (a b : Pt) (kept : List Kept) (i : ℕ) (d : Kept) (next : List Kept) (t : Tri) →
-    i < length kept → next ≡ after a b (take i kept) → t ≡ replaced a b (get_or kept i d).tri →
-    has_distinct_corners t ≡ false → next ≡ after a b (take (i + 1) kept)
-after-skipped a b kept i d next t within so_far is flat =
-    so_far ∙ sym (after-more a b kept i d within ∙
-    ap (λ e. after a b (take i kept) ++ cond e (moved_to a b (get_or kept i d) ∷ []) [])
-    (ap has_distinct_corners (sym is) ∙ flat) ∙ append-nil (after a b (take i kept)))
 
 -- ---- how far corners moved
 

@@ -1,7 +1,11 @@
-ghost use Rattle.std.specs.Prelude.{◌≡◌, ◌≤◌, IfOk, length, All};
+ghost use Rattle.std.specs.Prelude.{◌≡◌, ◌≤◌, ◌<◌, ℕ, true, false, List, None, IfOk, OnOk, length, All, slice_index_or};
 ghost use Rattle.geom_core.specs.declared.limits.TheConstants.{TRIANGLES_PER_GROUP};
+ghost use Rattle.geom_core.specs.declared.points.Pt.{Pt};
+ghost use Rattle.geom_core.specs.declared.triangles.Tri.{Tri};
 ghost use Rattle.geom_core.specs.Limits.{IsGridTriangle};
-ghost use Rattle.rim_collapse.specs.Internal.Bests.{IsBestAmong, IsBestAt, lesser_of};
+ghost use Rattle.rim_collapse.specs.Internal.Bests.{AreRight, IsBestAmong, IsBestAt, lesser_of};
+ghost use Rattle.rim_collapse.specs.Internal.Faces.{point_at};
+ghost use Rattle.rim_collapse.specs.Internal.Marks.{is_marked};
 
 use crate::facets::Facet;
 use crate::keys::Key;
@@ -41,20 +45,41 @@ fn lesser(best: Option<Key>, other: Option<Key>) -> Option<Key>
 }
 
 /// Returns the least legal collapse of one of the points, or `None`.
-pub(crate) fn best_of_all(
-    facets: &mut Vec<Facet>,
-    tris: &[Tri],
-    locked: &BTreeSet<Pt>,
-    points: &[Pt],
-) -> Result<Option<Key>, Memory>
-    requires triangle_limit { length tris.now ≤ TRIANGLES_PER_GROUP }
-    requires triangles { All IsGridTriangle tris.now }
-    ensures { IfOk result (IsBestAmong tris.now locked.now.keys points.now) }
+pub(crate) fn least_best(bests: &[Option<Key>]) -> Option<Key>
+    ensures { (tris : List Tri) → (locked points : List Pt) → length bests.now ≡ length points →
+        AreRight tris locked points bests.now → IsBestAmong tris locked points result }
 {
     let mut least = None;
-    for point in points {
-        let best = best_at(facets, tris, locked, *point)?;
-        least = lesser(least, best);
+    for best in bests {
+        least = lesser(least, *best);
     }
-    Ok(least)
+    least
+}
+
+/// Asks the marked points anew: puts the least legal collapse of each over the near triangles in place of what was
+/// listed, and leaves those of all other points.
+pub(crate) fn refresh(
+    bests: &mut Vec<Option<Key>>,
+    facets: &mut Vec<Facet>,
+    points: &[Pt],
+    near: &[Tri],
+    locked: &BTreeSet<Pt>,
+    marks: &[bool],
+) -> Result<(), Memory>
+    requires count { length bests.old.items ≡ length points.now }
+    requires marks { length marks.now ≡ length points.now }
+    requires triangle_limit { length near.now ≤ TRIANGLES_PER_GROUP }
+    requires triangles { All IsGridTriangle near.now }
+    ensures count { OnOk result (length bests.new.items ≡ length points.now) }
+    ensures asked { OnOk result ((k : ℕ) → k < length points.now → is_marked marks.now k ≡ true →
+        IsBestAt near.now locked.now.keys (point_at points.now k) (slice_index_or bests.new.items k None)) }
+    ensures others { OnOk result ((k : ℕ) → is_marked marks.now k ≡ false →
+        slice_index_or bests.new.items k None ≡ slice_index_or bests.old.items k None) }
+{
+    for k in 0..points.len() {
+        if marks[k] {
+            bests[k] = best_at(facets, near, locked, points[k])?;
+        }
+    }
+    Ok(())
 }

@@ -14,10 +14,12 @@
 
 mod bests;
 mod corners;
+mod faces;
 mod facets;
 mod keys;
 pub mod laws;
 mod least;
+mod marks;
 mod points;
 mod simplifying;
 mod states;

@@ -1,27 +1,38 @@
-ghost use Rattle.std.specs.Prelude.{◌≡◌, ◌≤◌, IfOk, OnOk, IsTrue, List, length, map, All, Contains};
+ghost use Rattle.std.specs.Prelude.{◌≡◌, ◌≤◌, ◌<◌, ◌*◌, IfOk, OnOk, IsTrue, ℕ, true, false, None, List, length, map, All};
+ghost use Rattle.std.specs.Prelude.{AllPairs, Contains, slice_index_or};
+ghost use Rattle.std.specs.declared.cmp.Ordering.TheVariants.{Less};
 ghost use Rattle.geom_core.specs.declared.limits.TheConstants.{TRIANGLES_PER_GROUP};
 ghost use Rattle.geom_core.specs.declared.points.Pt.{Pt};
-ghost use Rattle.geom_core.specs.Corners.{IsCornerIn};
+ghost use Rattle.geom_core.specs.declared.triangles.Tagged.{Tagged};
 ghost use Rattle.geom_core.specs.EdgeSum.{edge_sum, OnRim};
 ghost use Rattle.geom_core.specs.Limits.{IsGridTriangle};
+ghost use Rattle.geom_core.specs.Order.{point_cmp};
 ghost use Rattle.geom_core.specs.TaggedLists.{tris_of};
 ghost use Rattle.rim_collapse.specs.declared.states.Kept.{Kept};
+ghost use Rattle.rim_collapse.specs.Internal.Bests.{AreRight, IsBestAt};
+ghost use Rattle.rim_collapse.specs.Internal.Faces.{IsNumbered, point_at, state_of, tris_at};
+ghost use Rattle.rim_collapse.specs.Internal.Marks.{is_marked};
 ghost use Rattle.rim_collapse.specs.Internal.Steps.{IsNextOf};
-ghost use Rattle.rim_collapse.specs.Legal.{is_among};
+ghost use Rattle.rim_collapse.specs.Legal.{has_edge, is_among};
 ghost use Rattle.rim_collapse.specs.Moved.{moved_of};
 ghost use Rattle.rim_collapse.specs.Simplified.{IsSimplified};
 ghost use Rattle.rim_collapse.specs.Sound.{IsSound};
-ghost use Rattle.rim_collapse.specs.States.{after, begun, present, tagged_of};
+ghost use Rattle.rim_collapse.specs.States.{after, tagged_of};
 
-use crate::bests::best_of_all;
+use crate::bests::{least_best, refresh};
+use crate::faces::{Face, faces_of, kept_of, list_after};
 use crate::facets::Facet;
 use crate::keys::Key;
-use crate::points::points_of;
-use crate::states::{Kept, begun, list_after, list_present, moved, tagged};
+use crate::marks::{list_near, mark_block, mark_round};
+use crate::points::{number_of, points_of};
+use crate::states::{Kept, moved, tagged};
 use geom_core::{Memory, Pt, Tagged, TaggedTris, Tri};
 use std::alloc::Global;
 use std::collections::BTreeSet;
 use std::mem;
+
+/// Points whose collapses are asked for at once at the start: their triangles are listed by one pass over all.
+const BLOCK: usize = 16;
 
 /// A simplified list.
 #[derive(Debug, Drop)]
@@ -36,41 +47,129 @@ pub struct Simplified {
 /// Lists that are filled anew for each collapse, so that they take memory only once.
 #[derive(Drop)]
 struct Scratch {
-    /// The triangles as they are.
-    tris: Vec<Tri>,
+    /// The points that are asked anew, by number.
+    marks: Vec<bool>,
+    /// The triangles that have a marked corner.
+    near: Vec<Tri>,
     /// The triangles round one point.
     facets: Vec<Facet>,
-    /// The state after a collapse.
-    next: Vec<Kept>,
+}
+
+/// Asks the marked points for their least legal collapses, over the triangles near them; only the triangles round a
+/// point decide its collapses.
+fn ask_marked(
+    bests: &mut Vec<Option<Key>>,
+    scratch: &mut Scratch,
+    points: &[Pt],
+    faces: &[Face],
+    locked: &BTreeSet<Pt>,
+) -> Result<(), Memory>
+    requires count { length bests.old.items ≡ length points.now }
+    requires marks { length scratch.old.marks.items ≡ length points.now }
+    requires ascending { AllPairs (λ p q. point_cmp p q ≡ Less) points.now }
+    requires triangle_limit { length faces.now ≤ TRIANGLES_PER_GROUP }
+    requires numbers { All (IsNumbered (length points.now)) faces.now }
+    requires triangles { All IsGridTriangle (tris_at points.now faces.now) }
+    ensures count { OnOk result (length bests.new.items ≡ length points.now) }
+    ensures marks { OnOk result (scratch.new.marks ≡ scratch.old.marks) }
+    ensures asked { OnOk result ((k : ℕ) → k < length points.now →
+        is_marked scratch.old.marks.items k ≡ true →
+        IsBestAt (tris_at points.now faces.now) locked.now.keys (point_at points.now k)
+        (slice_index_or bests.new.items k None)) }
+    ensures others { OnOk result ((k : ℕ) → is_marked scratch.old.marks.items k ≡ false →
+        slice_index_or bests.new.items k None ≡ slice_index_or bests.old.items k None) }
+{
+    list_near(&mut scratch.near, points, faces, &scratch.marks)?;
+    refresh(
+        bests,
+        &mut scratch.facets,
+        points,
+        &scratch.near,
+        locked,
+        &scratch.marks,
+    )?;
+    Ok(())
+}
+
+/// Returns each point's least legal collapse, by number. Asks the points in blocks.
+fn first_bests(
+    alloc: Global,
+    scratch: &mut Scratch,
+    points: &[Pt],
+    faces: &[Face],
+    locked: &BTreeSet<Pt>,
+) -> Result<Vec<Option<Key>>, Memory>
+    requires marks { length scratch.old.marks.items ≡ length points.now }
+    requires ascending { AllPairs (λ p q. point_cmp p q ≡ Less) points.now }
+    requires triangle_limit { length faces.now ≤ TRIANGLES_PER_GROUP }
+    requires point_limit { length points.now ≤ 3 * TRIANGLES_PER_GROUP }
+    requires numbers { All (IsNumbered (length points.now)) faces.now }
+    requires triangles { All IsGridTriangle (tris_at points.now faces.now) }
+    ensures marks { IfOk result (λ bests. length scratch.new.marks.items ≡ length points.now) }
+    ensures count { IfOk result (λ bests. length bests.items ≡ length points.now) }
+    ensures right { IfOk result (λ bests.
+        AreRight (tris_at points.now faces.now) locked.now.keys points.now bests.items) }
+{
+    let mut bests = vec![in alloc; None; points.len()]?;
+    for block in 0..points.len().div_ceil(BLOCK) {
+        let start = block * BLOCK;
+        mark_block(&mut scratch.marks, start, start + BLOCK);
+        ask_marked(&mut bests, scratch, points, faces, locked)?;
+    }
+    Ok(bests)
 }
 
 /// Returns the next collapse, or `None` if at most half of the `count` triangles are left or no collapse is legal.
-fn next_collapse(
-    scratch: &mut Scratch,
-    kept: &[Kept],
-    points: &[Pt],
-    locked: &BTreeSet<Pt>,
-    count: usize,
-) -> Result<Option<Key>, Memory>
-    requires triangle_limit { length kept.now ≤ TRIANGLES_PER_GROUP }
-    requires triangles { All IsGridTriangle (present kept.now) }
-    requires points { (p : Pt) → IsCornerIn (present kept.now) p → Contains points.now p }
-    ensures { IfOk result (IsNextOf locked.now.keys count kept.now) }
+fn next_collapse(faces: &[Face], bests: &[Option<Key>], count: usize) -> Option<Key>
+    requires triangle_limit { length faces.now ≤ TRIANGLES_PER_GROUP }
+    ensures { (tris : List Tagged) → (locked points : List Pt) →
+        All (IsNumbered (length points)) faces.now → length bests.now ≡ length points →
+        AreRight (tris_at points faces.now) locked points bests.now →
+        IsNextOf locked count (state_of tris points faces.now) result }
 {
-    if 2 * kept.len() <= count {
-        return Ok(None);
+    if 2 * faces.len() <= count {
+        return None;
     }
-    list_present(&mut scratch.tris, kept)?;
-    let best = best_of_all(&mut scratch.facets, &scratch.tris, locked, points)?;
-    Ok(best)
+    least_best(bests)
 }
 
-/// Does a collapse of a to b.
-fn collapse(kept: &mut Vec<Kept>, scratch: &mut Scratch, a: Pt, b: Pt) -> Result<(), Memory>
-    ensures { OnOk result (kept.new.items ≡ after a b kept.old.items) }
+/// Does a collapse of a to b. Asks the points anew round which it changes triangles; the least legal collapse of each
+/// other point stays, as only the triangles round a point decide it.
+fn collapse(
+    faces: &mut Vec<Face>,
+    next: &mut Vec<Face>,
+    bests: &mut Vec<Option<Key>>,
+    scratch: &mut Scratch,
+    points: &[Pt],
+    locked: &BTreeSet<Pt>,
+    a: Pt,
+    b: Pt,
+) -> Result<(), Memory>
+    requires triangle_limit { length faces.old.items ≤ TRIANGLES_PER_GROUP }
+    requires point_limit { length points.now ≤ 3 * TRIANGLES_PER_GROUP }
+    requires ascending { AllPairs (λ p q. point_cmp p q ≡ Less) points.now }
+    requires count { length bests.old.items ≡ length points.now }
+    requires marks { length scratch.old.marks.items ≡ length points.now }
+    requires numbers { All (IsNumbered (length points.now)) faces.old.items }
+    requires triangles { All IsGridTriangle (tris_at points.now faces.old.items) }
+    requires edge { has_edge (tris_at points.now faces.old.items) a b ≡ true }
+    ensures numbers { OnOk result (All (IsNumbered (length points.now)) faces.new.items) }
+    ensures was { OnOk result ((count : ℕ) →
+        All (λ f. f.was < count) faces.old.items → All (λ f. f.was < count) faces.new.items) }
+    ensures state { OnOk result ((tris : List Tagged) →
+        state_of tris points.now faces.new.items ≡ after a b (state_of tris points.now faces.old.items)) }
+    ensures count { OnOk result (length bests.new.items ≡ length points.now) }
+    ensures marks { OnOk result (length scratch.new.marks.items ≡ length points.now) }
+    ensures right { OnOk result (
+        AreRight (tris_at points.now faces.old.items) locked.now.keys points.now bests.old.items →
+        AreRight (tris_at points.now faces.new.items) locked.now.keys points.now bests.new.items) }
 {
-    list_after(&mut scratch.next, kept, a, b)?;
-    mem::swap(kept, &mut scratch.next);
+    let from = number_of(points, a);
+    let to = number_of(points, b);
+    mark_round(&mut scratch.marks, faces, from);
+    list_after(next, faces, from, to)?;
+    mem::swap(faces, next);
+    ask_marked(bests, scratch, points, faces, locked)?;
     Ok(())
 }
 
@@ -80,23 +179,28 @@ fn end_state(alloc: Global, tris: &[Tagged], locked: &BTreeSet<Pt>) -> Result<Ve
     requires triangles { All IsGridTriangle (tris_of tris.now) }
     ensures { IfOk result (λ kept. IsSimplified tris.now locked.now.keys kept.items) }
 {
-    let mut kept = begun(alloc, tris)?;
+    let points = points_of(alloc, tris)?;
+    let mut faces = faces_of(alloc, &points, tris)?;
+    let mut next = Vec::new(alloc);
     let mut scratch = Scratch {
-        tris: Vec::new(alloc),
+        marks: vec![in alloc; false; points.len()]?,
+        near: Vec::new(alloc),
         facets: Vec::new(alloc),
-        next: Vec::new(alloc),
     };
-    list_present(&mut scratch.tris, &kept)?;
-    let points = points_of(alloc, &scratch.tris)?;
-    'collapses: while let Some(key) = next_collapse(
-        &mut scratch,
-        &kept,
-        &points,
-        locked,
-        tris.len(),
-    )? {
-        collapse(&mut kept, &mut scratch, key.from, key.to)?;
+    let mut bests = first_bests(alloc, &mut scratch, &points, &faces, locked)?;
+    'collapses: while let Some(key) = next_collapse(&faces, &bests, tris.len()) {
+        collapse(
+            &mut faces,
+            &mut next,
+            &mut bests,
+            &mut scratch,
+            &points,
+            locked,
+            key.from,
+            key.to,
+        )?;
     }
+    let kept = kept_of(alloc, tris, &points, &faces)?;
     Ok(kept)
 }
 

@@ -1,9 +1,8 @@
-ghost use Rattle.std.specs.Prelude.{◌≡◌, IfOk, OnOk, map};
+ghost use Rattle.std.specs.Prelude.{◌≡◌, IfOk, map};
 ghost use Rattle.rim_collapse.specs.Moved.{moved_of, shift};
-ghost use Rattle.rim_collapse.specs.States.{after, begun, present, tagged_of};
+ghost use Rattle.rim_collapse.specs.States.{tagged_of};
 
-use crate::corners::replaced;
-use geom_core::{Memory, Pt, Tagged, Tri, cheb};
+use geom_core::{Memory, Tagged, Tri, cheb};
 use std::alloc::Global;
 
 /// A triangle that is left, beside the one that it was.
@@ -13,45 +12,6 @@ pub struct Kept {
     pub tri: Tri,
     /// The triangle of the list that was given.
     pub was: Tagged,
-}
-
-/// Returns the state before any collapse.
-pub(crate) fn begun(alloc: Global, tris: &[Tagged]) -> Result<Vec<Kept>, Memory>
-    ensures { IfOk result (λ kept. kept.items ≡ begun tris.now) }
-{
-    let mut kept = Vec::with_capacity(alloc, tris.len())?;
-    for tagged in tris {
-        kept.push(Kept {
-            tri: tagged.tri,
-            was: *tagged,
-        })?;
-    }
-    Ok(kept)
-}
-
-/// Lists the triangles as they are, in place of what was listed.
-pub(crate) fn list_present(tris: &mut Vec<Tri>, kept: &[Kept]) -> Result<(), Memory>
-    ensures { OnOk result (tris.new.items ≡ present kept.now) }
-{
-    tris.clear();
-    for left in kept {
-        tris.push(left.tri)?;
-    }
-    Ok(())
-}
-
-/// Lists the state after a collapse of a to b, in place of what was listed.
-pub(crate) fn list_after(next: &mut Vec<Kept>, kept: &[Kept], a: Pt, b: Pt) -> Result<(), Memory>
-    ensures { OnOk result (next.new.items ≡ after a b kept.now) }
-{
-    next.clear();
-    for left in kept {
-        let tri = replaced(left.tri, a, b);
-        if tri.has_distinct_corners() {
-            next.push(Kept { tri, was: left.was })?;
-        }
-    }
-    Ok(())
 }
 
 /// Returns how far the triangle's corners are from where they were, in grid steps.

@@ -1,11 +1,12 @@
 -- The least legal collapses of single points.
-use Rattle.std.specs.Prelude.{◌≡◌, Bool, true, false, ◌&&◌, List, Option, Some, None, All, if◌then◌else◌}
+use Rattle.std.specs.Prelude.{◌≡◌, ◌<◌, Bool, true, false, ◌&&◌, ℕ, List, length, Option, Some, None, All, slice_index_or, if◌then◌else◌}
 use Rattle.std.specs.Ordering.{is_lt}
 use Rattle.geom_core.specs.declared.points.Pt.{Pt}
 use Rattle.geom_core.specs.declared.triangles.Tri.{Tri}
 use Rattle.rim_collapse.specs.declared.keys.Key.{Key}
 use Rattle.rim_collapse.specs.Cost.{key_cmp, key_of}
 use Rattle.rim_collapse.specs.Legal.{has_edge, is_legal, is_legal_collapse}
+use Rattle.rim_collapse.specs.Internal.Faces.{point_at}
 
 -- a may move to q, if it isn't locked
 abbrev pub is_open : List Tri → Pt → Pt → Bool
@@ -42,3 +43,8 @@ abbrev pub lesser_of : Option Key → Option Key → Option Key
 lesser_of None other = other
 lesser_of (Some k) None = Some k
 lesser_of (Some k) (Some l) = if is_lt (key_cmp l k) then Some l else Some k
+
+-- each point's least legal collapse, or none, by the point's number
+abbrev pub AreRight : List Tri → List Pt → List Pt → List (Option Key) → Type 0
+AreRight tris locked points bests =
+    (k : ℕ) → k < length points → IsBestAt tris locked (point_at points k) (slice_index_or bests k None)
