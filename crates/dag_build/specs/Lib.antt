@@ -1,0 +1,5 @@
+pub mod Built
+pub mod Grouping
+pub mod Levels
+pub mod Numbers
+pub mod Outcomes

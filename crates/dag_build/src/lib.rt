@@ -1,0 +1,2 @@
+//! Levels of detail.
+#![tactic(auto)]
