@@ -4,7 +4,8 @@ use Rattle.geom_core.specs.declared.triangles.Tri.{Tri}
 use Rattle.geom_core.specs.declared.triangles.Tagged.{Tagged}
 use Rattle.dag_core.specs.declared.dags.Dag.{Dag}
 use Rattle.dag_build.specs.Grouping.{AreCut, AreGrouped, Sizes, full_sizes}
-use Rattle.dag_build.specs.Levels.{LevelCluster, LevelGroup, next_clusters, numbered, source_cluster}
+use Rattle.dag_build.specs.declared.level_clusters.LevelCluster.{LevelCluster}
+use Rattle.dag_build.specs.Levels.{LevelGroup, next_clusters, numbered, source_cluster}
 use Rattle.dag_build.specs.Numbers.{dag_of}
 use Rattle.dag_build.specs.Outcomes.{IsOutcome}
 
@@ -13,8 +14,8 @@ pub record IsLevel (sizes : Sizes) (clusters : List LevelCluster) (groups : List
   pub grouped : AreGrouped sizes.group clusters (map (λ group. group.members) groups)
   pub outcomes : All (IsOutcome sizes.cluster (length clusters)) groups
 
--- the levels from one with these clusters on: each next one has the clusters that the groups of the one before made, and
--- the last one made none
+-- the levels from one with these clusters on: each next one has the clusters that the groups of the one before made,
+-- and the last one made none
 unfoldable pub AreLevels : Sizes → List LevelCluster → List (List LevelGroup) → Type 0
 AreLevels sizes clusters [] = clusters ≡ []
 AreLevels sizes clusters (groups ∷ levels) =

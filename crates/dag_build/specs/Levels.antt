@@ -1,19 +1,10 @@
 -- What levels of detail consist of: clusters, and the groups that they are simplified in.
-use Rattle.std.specs.Prelude.{Bool, ℕ, ◌+◌, List, [], ◌∷◌, ◌++◌, map, flat_map, Option, Some, None}
+use Rattle.std.specs.Prelude.{Bool, ℕ, ◌+◌, List, [], ◌∷◌, ◌++◌, map, flat_map, Some, None}
 use Rattle.geom_core.specs.declared.triangles.Tri.{Tri}
 use Rattle.geom_core.specs.declared.triangles.Tagged.{Tagged}
 use Rattle.geom_core.specs.declared.boxes.Cube.{Cube}
-
--- what a cluster keeps of the group that made it: its place among the groups of the level below, its error and its box
-pub record Maker : Type 0 where
-  pub group : ℕ
-  pub error : ℕ
-  pub cube : Cube
-
--- a cluster of a level: its triangles with their sources, and its maker, which a cluster of source triangles has not
-pub record LevelCluster : Type 0 where
-  pub tris : List Tagged
-  pub maker : Option Maker
+use Rattle.dag_build.specs.declared.level_clusters.LevelCluster.{LevelCluster}
+use Rattle.dag_build.specs.declared.level_clusters.Maker.{Maker}
 
 -- a group of a level: its members in order, what bounds them, and the triangles of each cluster that it made
 pub record LevelGroup : Type 0 where

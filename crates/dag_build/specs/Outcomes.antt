@@ -12,8 +12,10 @@ use Rattle.rim_collapse.specs.Legal.{is_among}
 use Rattle.rim_collapse.specs.Moved.{moved_of}
 use Rattle.rim_collapse.specs.Simplified.{IsSimplified}
 use Rattle.rim_collapse.specs.States.{tagged_of}
-use Rattle.dag_build.specs.Grouping.{AreCut}
-use Rattle.dag_build.specs.Levels.{LevelCluster, LevelGroup, Maker, tris_in}
+use Rattle.dag_build.specs.Grouping.{AreCut, corners_of}
+use Rattle.dag_build.specs.declared.level_clusters.LevelCluster.{LevelCluster}
+use Rattle.dag_build.specs.declared.level_clusters.Maker.{Maker}
+use Rattle.dag_build.specs.Levels.{LevelGroup, tris_in}
 
 -- the points on the rim of the triangles, and no others
 abbrev pub AreRimPoints : List Tri → List Pt → Type 0
@@ -29,10 +31,6 @@ abbrev pub greatest_error : List LevelCluster → ℕ
 greatest_error [] = 0
 greatest_error (cluster ∷ clusters) = max (maker_error cluster.maker) (greatest_error clusters)
 
--- the corners of a triangle
-abbrev pub corners_of : Tagged → List Pt
-corners_of t = t.tri.a ∷ t.tri.b ∷ t.tri.c ∷ []
-
 -- the two corners of a maker's box
 abbrev pub box_points : Option Maker → List Pt
 box_points None = []
@@ -40,7 +38,7 @@ box_points (Some maker) = maker.cube.lo ∷ maker.cube.hi ∷ []
 
 -- the points that a group's box holds: the corners of its members' triangles and the boxes of their makers
 abbrev pub points_of : List LevelCluster → List Pt
-points_of members = flat_map (λ cluster. flat_map corners_of cluster.tris ++ box_points cluster.maker) members
+points_of members = flat_map (λ cluster. flat_map corners_of (tris_of cluster.tris) ++ box_points cluster.maker) members
 
 -- The group makes nothing: its level has one cluster, nothing of its triangles is left, more than seven eighths of them
 -- are left, or the error would be too great.
