@@ -24,5 +24,7 @@ mod level_clusters;
 mod members;
 mod numbering;
 mod outcomes;
+#[cfg(test)]
+mod tests;
 
 pub use building::build_dag;
