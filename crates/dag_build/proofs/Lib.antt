@@ -1,0 +1,10 @@
+pub mod BatchLaws
+pub mod BoxLaws
+pub mod CutLaws
+pub mod LeadLaws
+pub mod LevelLaws
+pub mod MemberLaws
+pub mod NumberLaws
+pub mod OutcomeLaws
+pub mod PointLaws
+pub mod TakingLaws
