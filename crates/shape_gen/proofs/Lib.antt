@@ -3,6 +3,7 @@ pub mod Examples
 pub mod FaceLaws
 pub mod GridLaws
 pub mod LatticeLaws
+pub mod LatticeSize
 pub mod PlaceLaws
 pub mod RangeFacts
 pub mod Ranges
