@@ -25,15 +25,15 @@ offset-limit : (number : ℕ) (p : Place) → offset number p < 251
 unfolding offset
 offset-limit number p = omega arith
 
-x_at-limit : (number : ℕ) (p : Place) → IsPlace p → x_at number p ≤ 2 ^ 20
+pub x_at-limit : (number : ℕ) (p : Place) → IsPlace p → x_at number p ≤ 2 ^ 20
 unfolding x_at
 x_at-limit number p place = omega (arith, offset-limit number p, place.i)
 
-y_at-limit : (number : ℕ) (p : Place) → IsPlace p → y_at number p ≤ 2 ^ 20
+pub y_at-limit : (number : ℕ) (p : Place) → IsPlace p → y_at number p ≤ 2 ^ 20
 unfolding y_at
 y_at-limit number p place = omega (arith, place.j)
 
-z_at-limit : (number : ℕ) (p : Place) → IsPlace p → z_at number p ≤ 2 ^ 20
+pub z_at-limit : (number : ℕ) (p : Place) → IsPlace p → z_at number p ≤ 2 ^ 20
 unfolding z_at
 z_at-limit number p place = omega (arith, place.k)
 
@@ -60,7 +60,7 @@ z_at-place : (number : ℕ) (p q : Place) → z_at number p ≡ z_at number q �
 unfolding z_at
 z_at-place number p q same = omega arith
 
-place_from : (i j k h l m : ℕ) → i ≡ h → j ≡ l → k ≡ m → place i j k ≡ place h l m
+pub place_from : (i j k h l m : ℕ) → i ≡ h → j ≡ l → k ≡ m → place i j k ≡ place h l m
 place_from i j k h l m by_i by_j by_k = cc
 
 number_from : (m n : ℕ) → pos m ≡ pos n → m ≡ n
@@ -131,7 +131,7 @@ triangle_from : (t : Tri) → is_grid_point t.a ≡ true → is_grid_point t.b �
 unfolding has_distinct_corners
 triangle_from t at_a at_b at_c ab bc ca = rw (at_a, at_b, at_c, ab, bc, ca) refl
 
-fan-grid : (number : ℕ) (f : Face) → HasPlaces f → AreCorners f → All IsGridTriangle (fan_of number f)
+pub fan-grid : (number : ℕ) (f : Face) → HasPlaces f → AreCorners f → All IsGridTriangle (fan_of number f)
 fan-grid number f places corners =
     All-cons IsGridTriangle lower (upper ∷ [])
     (triangle_from lower (point_at-grid number f.a places.0) (point_at-grid number f.b places.1)

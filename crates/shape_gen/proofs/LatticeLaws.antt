@@ -1,4 +1,4 @@
--- The lattice: it ascends, its places are those of a box, and there are few.
+-- The lattice: it ascends, and its places are those of a box.
 use Rattle.std.proofs.Common.{◌≡◌, ℕ, ◌+◌, ◌<◌, ◌≤◌, length, All, AllPairs, arith}
 use Rattle.std.specs.List.{range_with_len}
 use Rattle.std.specs.declared.cmp.Ordering.TheVariants.{Less}
@@ -7,7 +7,6 @@ use Rattle.std.proofs.lemmas.List.{length-map}
 use Rattle.std.proofs.lemmas.List.Elements.{All-map, All-filter}
 use Rattle.std.proofs.lemmas.List.FromFn.{length-range_with_len}
 use Rattle.std.proofs.lemmas.List.Kept.{AllPairs-filter}
-use Rattle.std.proofs.lemmas.List.Sums.{length-filter, count_by-le-length}
 use Rattle.shape_gen.specs.declared.lattice.Place.{Place}
 use Rattle.shape_gen.specs.Lattice.{IsBoxSize, IsPlace, place, is_on_surface, row_places, layer_places, cube_places, lattice}
 use Rattle.shape_gen.specs.Order.{place_cmp, IsAscending}
@@ -63,25 +62,15 @@ lattice-places n size =
     All-filter (is_on_surface n) IsPlace (cube_places n)
     (All-cube IsPlace n (λ i j k a b c. record { i = omega arith; j = omega arith; k = omega arith }))
 
--- at most 296 places a row, 296 rows a layer and 296 layers
-length-row : (n i j : ℕ) → IsBoxSize n → length (row_places n i j) ≤ 296
+-- at most 296 places a row, and 296 rows a layer
+pub length-row : (n i j : ℕ) → IsBoxSize n → length (row_places n i j) ≤ 296
 length-row n i j size =
     omega (arith, length-map (range_with_len 0 (n + 1)) (place i j), length-range_with_len 0 (n + 1))
 
-length-layer : (n i : ℕ) → IsBoxSize n → length (layer_places n i) ≤ 87616
+pub length-layer : (n i : ℕ) → IsBoxSize n → length (layer_places n i) ≤ 87616
 length-layer n i size =
     omega (
       arith,
       length-flat_map_most (row_places n i) 296 (λ j. length-row n i j size) (range_with_len 0 (n + 1)),
-      length-range_with_len 0 (n + 1),
-    )
-
-pub length-lattice : (n : ℕ) → IsBoxSize n → length (lattice n) ≤ 25934336
-length-lattice n size =
-    omega (
-      arith,
-      length-filter (is_on_surface n) (cube_places n),
-      count_by-le-length (is_on_surface n) (cube_places n),
-      length-flat_map_most (layer_places n) 87616 (λ i. length-layer n i size) (range_with_len 0 (n + 1)),
       length-range_with_len 0 (n + 1),
     )

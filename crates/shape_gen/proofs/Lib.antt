@@ -3,7 +3,14 @@ pub mod Examples
 pub mod FaceLaws
 pub mod GridLaws
 pub mod LatticeLaws
+pub mod LatticeMembers
+pub mod LatticeSize
+pub mod LineReadings
 pub mod PlaceLaws
+pub mod PrintedNumbers
 pub mod RangeFacts
 pub mod Ranges
+pub mod ReadBack
+pub mod TextSize
+pub mod TextWords
 pub mod Totals

@@ -24,6 +24,17 @@ length-flat_map_most f m most [] = omega arith
 length-flat_map_most f m most (x ∷ xs) =
     omega (arith, length-append (f x) (flat_map f xs), most x, length-flat_map_most f m most xs)
 
+pub length-flat_map_each : {X A : Type 0} (f : X → List A) (m : ℕ) (xs : List X) → All (λ x. length (f x) ≤ m) xs →
+    length (flat_map f xs) ≤ length xs * m
+length-flat_map_each f m [] each = omega arith
+length-flat_map_each {X} f m (x ∷ xs) each =
+    omega (
+      arith,
+      length-append (f x) (flat_map f xs),
+      All-head (λ (y : X). length (f y) ≤ m) x xs each,
+      length-flat_map_each f m xs (All-tail (λ (y : X). length (f y) ≤ m) x xs each),
+    )
+
 pub AllPairs-append : {X : Type 0} (R : X → X → Type 0) (xs ys : List X) → AllPairs R xs → AllPairs R ys →
     All (λ x. All (R x) ys) xs → AllPairs R (xs ++ ys)
 AllPairs-append R [] ys first second across = second

@@ -6,7 +6,7 @@
 //! points unless their numbers agree modulo `OFFSETS`.
 //!
 //! `bumpy_box` gives the triangles, `box_text` the same mesh as a Wavefront OBJ text in grid steps. `geom_core` has
-//! points and triangles. On `Memory` nothing is returned.
+//! points and triangles, and `obj_source` the meaning of a text, which only a law names. On `Memory` nothing is returned.
 #![tactic(auto)]
 
 mod boxes;

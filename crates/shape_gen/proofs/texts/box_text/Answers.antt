@@ -1,6 +1,7 @@
 use Rattle.std.proofs.Common.{length, ap, arith}
 use Rattle.shape_gen.proofs.FaceLaws.{length-faces}
-use Rattle.shape_gen.proofs.LatticeLaws.{lattice-ascending, lattice-places, length-lattice}
+use Rattle.shape_gen.proofs.LatticeLaws.{lattice-ascending, lattice-places}
+use Rattle.shape_gen.proofs.LatticeSize.{length-lattice}
 use Rattle.shape_gen.proofs.texts.box_text.Goals as goal
 
 pub overflow_mul-room : goal.overflow_mul-room
