@@ -1,0 +1,9 @@
+pub mod GroupSizes
+pub mod LaidGroups
+pub mod LaidHeads
+pub mod LaidPages
+pub mod LaidRules
+pub mod LaidTriangles
+mod LayoutExamples
+pub mod NextFit
+pub mod PageLoads

@@ -1,0 +1,12 @@
+//! Page files: a DAG is laid out on pages, and its file is written.
+//!
+//! The pages rule is `specs/PagesRule.antt`. The bytes themselves are `page_codec`'s.
+//!
+//! On `Memory` nothing is kept.
+#![tactic(auto)]
+
+mod fillings;
+mod laying;
+pub mod layout_laws;
+
+pub use laying::lay_out;
