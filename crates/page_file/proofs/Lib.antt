@@ -1,3 +1,5 @@
+pub mod FileParts
+pub mod FileWrites
 pub mod GroupSizes
 pub mod LaidGroups
 pub mod LaidHeads

@@ -8,5 +8,12 @@
 mod fillings;
 mod laying;
 pub mod layout_laws;
+mod page_writes;
+mod writing;
 
 pub use laying::lay_out;
+pub use page_writes::PageWrite;
+pub use writing::write_pages;
+
+#[cfg(test)]
+mod write_tests;
