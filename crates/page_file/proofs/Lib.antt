@@ -1,3 +1,4 @@
+mod Examples
 pub mod FileParts
 pub mod FileWrites
 pub mod GroupSizes
@@ -9,3 +10,8 @@ pub mod LaidTriangles
 mod LayoutExamples
 pub mod NextFit
 pub mod PageLoads
+pub mod Rules
+pub mod StepRefusals
+pub mod Steps
+pub mod Texts
+pub mod Written

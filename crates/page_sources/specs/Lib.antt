@@ -1,0 +1,3 @@
+pub mod FileForms
+pub mod MemoryForms
+pub mod PageReads
