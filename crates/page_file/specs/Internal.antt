@@ -1,2 +1,5 @@
--- What only clauses of this crate's own functions name: what was read so far, and what it decides.
+-- What only clauses of this crate's own functions name: what was read so far, and what it decides; what putting a text
+-- comes to.
+pub mod PageTexts
+pub mod Puts
 pub mod Seen
