@@ -1,6 +1,7 @@
 pub mod BatchLaws
 pub mod BoxLaws
 pub mod CutLaws
+pub mod ElementLaws
 pub mod LeadLaws
 pub mod LevelLaws
 pub mod MemberLaws
