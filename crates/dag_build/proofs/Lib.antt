@@ -6,6 +6,7 @@ pub mod LeadLaws
 pub mod LevelLaws
 pub mod MemberLaws
 pub mod NumberLaws
+pub mod OneDag
 pub mod OutcomeLaws
 pub mod PointLaws
 pub mod TakingLaws
