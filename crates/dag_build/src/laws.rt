@@ -1,11 +1,31 @@
 //! Laws of built DAGs: public functions without a body, whose clauses callers' proofs cite.
 ghost use Rattle.std.specs.Prelude.{◌≡◌, List};
 ghost use Rattle.geom_core.specs.declared.triangles.Tri.{Tri};
+ghost use Rattle.geom_core.specs.Limits.{AreGridTriangles};
 ghost use Rattle.dag_core.specs.declared.dags.Dag.{Dag};
+ghost use Rattle.dag_core.specs.Ranges.{IsInRange};
+ghost use Rattle.dag_core.specs.Rules.{KeepsRulesBelow};
+ghost use Rattle.dag_core.specs.TriangleRules.{CanBeLaidOut};
 ghost use Rattle.dag_build.specs.Built.{IsBuilt};
 
 /// A law: a mesh has at most one DAG.
 pub fn one_dag_is_built()
     ensures dag { (tris : List Tri) (dag other : Dag) → IsBuilt tris dag → IsBuilt tris other →
         dag ≡ other }
+{}
+
+/// A law: all numbers of a built DAG keep their ranges, and it keeps the rules of members, makers, terminal groups,
+/// and errors and boxes.
+pub fn built_dags_are_checked()
+    ensures range { (tris : List Tri) (dag : Dag) → AreGridTriangles tris → IsBuilt tris dag →
+        IsInRange dag.heads }
+    ensures rules { (tris : List Tri) (dag : Dag) → AreGridTriangles tris → IsBuilt tris dag →
+        KeepsRulesBelow 5 dag.heads }
+{}
+
+/// A law: a built DAG can be laid out on pages. So each of its clusters has as many triangles as its head states, all
+/// of them triangles of a mesh with the number of a source triangle.
+pub fn built_dags_can_be_laid_out()
+    ensures layout { (tris : List Tri) (dag : Dag) → AreGridTriangles tris → IsBuilt tris dag →
+        CanBeLaidOut dag }
 {}
