@@ -5,6 +5,7 @@ pub mod BuiltRules
 pub mod ClusterHomes
 pub mod CutLaws
 pub mod ElementLaws
+pub mod Entries
 pub mod GoodClusters
 pub mod GoodLevels
 pub mod GroupBounds
@@ -12,7 +13,9 @@ pub mod GroupNumbers
 pub mod LeadLaws
 pub mod LevelLaws
 pub mod MadeClusters
+pub mod MadeEdges
 pub mod MadeLaws
+pub mod MadeSums
 pub mod MemberLaws
 pub mod NumberLaws
 pub mod OneDag

@@ -1,11 +1,11 @@
 //! Laws of built DAGs: public functions without a body, whose clauses callers' proofs cite.
-ghost use Rattle.std.specs.Prelude.{◌≡◌, List};
+ghost use Rattle.std.specs.Prelude.{◌≡◌, ℕ, false, List};
 ghost use Rattle.geom_core.specs.declared.triangles.Tri.{Tri};
 ghost use Rattle.geom_core.specs.Limits.{AreGridTriangles};
 ghost use Rattle.dag_core.specs.declared.dags.Dag.{Dag};
 ghost use Rattle.dag_core.specs.Ranges.{IsInRange};
 ghost use Rattle.dag_core.specs.Rules.{KeepsRulesBelow};
-ghost use Rattle.dag_core.specs.TriangleRules.{CanBeLaidOut};
+ghost use Rattle.dag_core.specs.TriangleRules.{CanBeLaidOut, dag_breaks};
 ghost use Rattle.dag_build.specs.Built.{IsBuilt};
 
 /// A law: a mesh has at most one DAG.
@@ -28,4 +28,11 @@ pub fn built_dags_are_checked()
 pub fn built_dags_can_be_laid_out()
     ensures layout { (tris : List Tri) (dag : Dag) → AreGridTriangles tris → IsBuilt tris dag →
         CanBeLaidOut dag }
+{}
+
+/// A law: in a built DAG the members of a group that isn't terminal and the clusters that it made have the same edge
+/// sum at each pair of points.
+pub fn built_dags_keep_edge_sums()
+    ensures sums { (tris : List Tri) (dag : Dag) (g : ℕ) → AreGridTriangles tris → IsBuilt tris dag →
+        dag_breaks 6 dag g ≡ false }
 {}
