@@ -11,6 +11,7 @@ pub mod GoodLevels
 pub mod GroupBounds
 pub mod GroupNumbers
 pub mod LeadLaws
+pub mod LeafTris
 pub mod LevelLaws
 pub mod MadeClusters
 pub mod MadeEdges
@@ -21,4 +22,5 @@ pub mod NumberLaws
 pub mod OneDag
 pub mod OutcomeLaws
 pub mod PointLaws
+pub mod SourceTris
 pub mod TakingLaws

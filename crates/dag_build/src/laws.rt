@@ -6,6 +6,7 @@ ghost use Rattle.dag_core.specs.declared.dags.Dag.{Dag};
 ghost use Rattle.dag_core.specs.Ranges.{IsInRange};
 ghost use Rattle.dag_core.specs.Rules.{KeepsRulesBelow};
 ghost use Rattle.dag_core.specs.TriangleRules.{CanBeLaidOut, dag_breaks};
+ghost use Rattle.dag_core.specs.Triangles.{source_of};
 ghost use Rattle.dag_build.specs.Built.{IsBuilt};
 
 /// A law: a mesh has at most one DAG.
@@ -35,4 +36,20 @@ pub fn built_dags_can_be_laid_out()
 pub fn built_dags_keep_edge_sums()
     ensures sums { (tris : List Tri) (dag : Dag) (g : ℕ) → AreGridTriangles tris → IsBuilt tris dag →
         dag_breaks 6 dag g ≡ false }
+{}
+
+/// A law: each source triangle of a built DAG is that of exactly one leaf triangle, and its source mesh is the mesh
+/// that it is built of.
+pub fn built_dags_have_each_source()
+    ensures once { (tris : List Tri) (dag : Dag) (source : ℕ) → AreGridTriangles tris → IsBuilt tris dag →
+        dag_breaks 7 dag source ≡ false }
+    ensures mesh { (tris : List Tri) (dag : Dag) → AreGridTriangles tris → IsBuilt tris dag →
+        source_of dag ≡ tris }
+{}
+
+/// A law: in a built DAG each corner of a cluster's triangle lies within the error of the cluster's maker, 0 for a
+/// leaf, of the same corner of its source triangle, by the Chebyshev distance.
+pub fn built_corners_stay_within()
+    ensures within { (tris : List Tri) (dag : Dag) (c : ℕ) → AreGridTriangles tris → IsBuilt tris dag →
+        dag_breaks 8 dag c ≡ false }
 {}
