@@ -6,6 +6,7 @@ pub mod ClusterHomes
 pub mod CutLaws
 pub mod ElementLaws
 pub mod Entries
+pub mod ErrorLaws
 pub mod GoodClusters
 pub mod GoodLevels
 pub mod GroupBounds

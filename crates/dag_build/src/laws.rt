@@ -1,5 +1,6 @@
 //! Laws of built DAGs: public functions without a body, whose clauses callers' proofs cite.
-ghost use Rattle.std.specs.Prelude.{◌≡◌, ℕ, false, List};
+ghost use Rattle.std.specs.Prelude.{◌≡◌, ◌≤◌, ◌*◌, ℕ, false, All, List, length, flat_map};
+ghost use Rattle.geom_core.specs.declared.limits.TheConstants.{MAX_COORDINATE};
 ghost use Rattle.geom_core.specs.declared.triangles.Tri.{Tri};
 ghost use Rattle.geom_core.specs.Limits.{AreGridTriangles};
 ghost use Rattle.dag_core.specs.declared.dags.Dag.{Dag};
@@ -52,4 +53,14 @@ pub fn built_dags_have_each_source()
 pub fn built_corners_stay_within()
     ensures within { (tris : List Tri) (dag : Dag) (c : ℕ) → AreGridTriangles tris → IsBuilt tris dag →
         dag_breaks 8 dag c ≡ false }
+{}
+
+/// A law: all levels of a built DAG together have at most eight times as many triangles as the mesh, and so at most
+/// 2^23, since each level has at most seven eighths of those of the one before it. So there are at most 93 levels. Each
+/// adds at most the greatest distance of two points of a mesh to an error, which is then at most 195,035,136.
+pub fn built_dags_are_small()
+    ensures triangle_limit { (tris : List Tri) (dag : Dag) → AreGridTriangles tris → IsBuilt tris dag →
+        length (flat_map (λ list. list) dag.tris) ≤ 8 * length tris }
+    ensures error_limit { (tris : List Tri) (dag : Dag) → AreGridTriangles tris → IsBuilt tris dag →
+        All (λ group. group.error ≤ 93 * (2 * MAX_COORDINATE)) dag.heads.groups }
 {}
