@@ -67,10 +67,10 @@ fresh keys edges size batches b k within = λ i inside.
 
 -- ---- what is cut
 
--- the clusters have as many triangles as were cut
-pub cut-total : (size : ℕ) (tris : List Tagged) (leaves : List (List Tagged)) → AreCut size tris leaves →
-    length (flat_map (λ leaf. leaf) leaves) ≡ length tris
-cut-total size tris leaves cut =
+-- the triangles of the clusters are those that were cut, in another order
+pub cut-moved : (size : ℕ) (tris : List Tagged) (leaves : List (List Tagged)) → AreCut size tris leaves →
+    IsPermutation tris (flat_map (λ leaf. leaf) leaves)
+cut-moved size tris leaves cut =
     let keys = map triangle_key (tris_of tris) in
     let plain : Tagged → Tri = λ t. t.tri in
     let same : length tris ≡ length keys = sym (length-map (tris_of tris) triangle_key ∙ length-map tris plain) in
@@ -78,9 +78,15 @@ cut-total size tris leaves cut =
     items_permuted tris no_triangle (length keys) same size (slice_index keys) (are_neighbours (map edges_of
     (tris_of tris)))
     cut.batches cut.grown.grown in
-    ap (λ xs. length (flat_map (λ (leaf : List Tagged). leaf) xs)) cut.picked ∙
-    (ap length (flat_map-map (λ (leaf : List Tagged). leaf) (pick tris no_triangle) cut.batches) ∙
-    length_permutation tris (flat_map (pick tris no_triangle) cut.batches) moved)
+    subst (IsPermutation tris)
+    (sym (ap (flat_map (λ (leaf : List Tagged). leaf)) cut.picked ∙
+    flat_map-map (λ (leaf : List Tagged). leaf) (pick tris no_triangle) cut.batches)) moved
+
+-- the clusters have as many triangles as were cut
+pub cut-total : (size : ℕ) (tris : List Tagged) (leaves : List (List Tagged)) → AreCut size tris leaves →
+    length (flat_map (λ leaf. leaf) leaves) ≡ length tris
+cut-total size tris leaves cut =
+    length_permutation tris (flat_map (λ (leaf : List Tagged). leaf) leaves) (cut-moved size tris leaves cut)
 
 -- a list that isn't empty and has at most so many triangles
 pub record HasSize (size : ℕ) (leaf : List Tagged) : Type 0 where

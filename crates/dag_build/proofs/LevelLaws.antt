@@ -27,6 +27,7 @@ use Rattle.dag_build.specs.Internal.Clusters.{made_cluster}
 use Rattle.dag_build.specs.Internal.DoneLevels.{HasProper, IsPlaced, IsProper}
 use Rattle.dag_build.specs.Internal.Groups.{unmade}
 use Rattle.dag_build.specs.Internal.Taking.{AreFresh}
+use Rattle.dag_build.proofs.ElementLaws.{All-mapped}
 use Rattle.dag_build.proofs.OutcomeLaws.{goes_on}
 use Rattle.dag_build.proofs.BatchLaws.{HasSize, cut-sizes, cut-total, fresh}
 
@@ -58,7 +59,7 @@ made-total size level_clusters group is =
         let on = goes_on level_clusters (length (tris_in group.members)) (length is.kept) _ (sym is.terminal ∙ ends) in
         omega (arith, on.few)
 
-tris_in-append : (clusters more : List LevelCluster) → tris_in (clusters ++ more) ≡ tris_in clusters ++ tris_in more
+pub tris_in-append : (clusters more : List LevelCluster) → tris_in (clusters ++ more) ≡ tris_in clusters ++ tris_in more
 tris_in-append clusters more = flat_map-append (λ (cluster : LevelCluster). cluster.tris) clusters more
 
 pub level-total : (size level_clusters place : ℕ) (groups : List LevelGroup) → All (IsOutcome size level_clusters)
@@ -107,7 +108,7 @@ members-moved size clusters groups grouped =
     flat_map-map (λ (list : List LevelCluster). list) (pick clusters no_cluster) grouped.batches)) in
     subst (IsPermutation clusters) all moved
 
-tris_in-moved : (clusters more : List LevelCluster) → IsPermutation clusters more → length (tris_in more) ≡ length
+pub tris_in-moved : (clusters more : List LevelCluster) → IsPermutation clusters more → length (tris_in more) ≡ length
     (tris_in clusters)
 tris_in-moved clusters more moved =
     let tris : LevelCluster → List Tagged = λ cluster. cluster.tris in
@@ -168,11 +169,6 @@ picked-proper clusters (n ∷ numbers) below all =
     All-cons IsProper (get_or clusters n no_cluster) (pick clusters no_cluster numbers)
     (All-get_or IsProper clusters n no_cluster (All-head P n numbers below) all)
     (picked-proper clusters numbers (All-tail P n numbers below) all)
-
-All-unmap : {X Y : Type 0} (P : Y → Type 0) (f : X → Y) (xs : List X) → All P (map f xs) → All (λ x. P (f x)) xs
-All-unmap P f [] all = All-nil (λ x. P (f x))
-All-unmap P f (x ∷ xs) all =
-    All-cons (λ y. P (f y)) x xs (All-head P (f x) (map f xs) all) (All-unmap P f xs (All-tail P (f x) (map f xs) all))
 
 -- ---- one level, batch by batch
 
@@ -342,6 +338,6 @@ level-is clusters groups proper limit is =
       few_groups = omega arith;
       same_count = length_permutation clusters (members_in groups) moved;
       shrinks = omega arith;
-      members = All-unmap (All IsProper) members groups lists;
+      members = All-mapped (All IsProper) members groups lists;
       next = next-proper (length clusters) 0 groups (omega arith) is.outcomes;
     }

@@ -2,7 +2,7 @@
 use Rattle.std.proofs.Common.{zero-add, suc, ◌≡◌, ◌≤◌, ◌+◌, ℕ, List, [], ◌∷◌, ◌++◌, map, length, All, refl, sym, ap, ◌∙◌, subst, arith}
 use Rattle.std.proofs.lemmas.List.{append-nil, append_assoc, length-append, length-map, map-append}
 use Rattle.std.proofs.lemmas.List.Concat.{flat_map-append}
-use Rattle.std.proofs.lemmas.List.Elements.{All-head, All-tail}
+use Rattle.std.proofs.lemmas.List.Elements.{All-head}
 use Rattle.geom_core.specs.declared.limits.TheConstants.{MAX_CLUSTERS, MAX_GROUPS}
 use Rattle.geom_core.specs.declared.triangles.Tagged.{Tagged}
 use Rattle.dag_core.specs.declared.cluster_heads.ClusterHead.{ClusterHead}
@@ -10,6 +10,7 @@ use Rattle.dag_core.specs.declared.groups.Group.{Group}
 use Rattle.dag_build.specs.declared.level_clusters.LevelCluster.{LevelCluster}
 use Rattle.dag_build.specs.Levels.{LevelGroup}
 use Rattle.dag_build.specs.Numbers.{clusters_in, dag_from, dag_of, group_head, groups_in, head_of, heads_from, members_in}
+use Rattle.dag_build.proofs.ElementLaws.{All-second}
 use Rattle.dag_build.specs.Internal.DoneLevels.{AreFewLevels, HasProper}
 use Rattle.dag_build.specs.Internal.Groups.{unmade}
 
@@ -151,11 +152,7 @@ pub numbered-dag : (sources : ℕ) (levels : List (List LevelGroup)) (groups : L
 unfolding dag_of
 numbered-dag sources levels groups clusters tris is = rw (is.groups_are, is.clusters_are, is.tris_are) refl
 
-All-right : {X : Type 0} (P : X → Type 0) (xs ys : List X) → All P (xs ++ ys) → All P ys
-All-right P [] ys all = all
-All-right P (x ∷ xs) ys all = All-right P xs ys (All-tail P x (xs ++ ys) all)
-
-nothing_left : {X : Type 0} (xs : List X) → length xs ≡ 0 → xs ≡ []
+pub nothing_left : {X : Type 0} (xs : List X) → length xs ≡ 0 → xs ≡ []
 nothing_left [] h = refl
 nothing_left (x ∷ xs) h = absurd (omega arith)
 
@@ -193,7 +190,7 @@ room levels left level done is few =
     record {
       groups = omega (arith, few.groups);
       clusters = omega (arith, few.clusters);
-      members = All-head (All HasProper) level done (All-right (All HasProper) left (level ∷ done)
+      members = All-head (All HasProper) level done (All-second (All HasProper) left (level ∷ done)
           (subst (All (All HasProper)) is few.members));
     }
 

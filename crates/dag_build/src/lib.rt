@@ -20,6 +20,7 @@ mod clusters;
 mod corners;
 mod cutting;
 mod done_groups;
+pub mod laws;
 mod level_clusters;
 mod members;
 mod numbering;
