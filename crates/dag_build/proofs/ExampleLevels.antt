@@ -32,19 +32,19 @@ use Rattle.dag_build.specs.Outcomes.{AreRimPoints, IsOutcome, is_terminal}
 use Rattle.dag_build.proofs.OneDag.{nil≢cons}
 use Rattle.dag_build.proofs.PointLaws.{rim_points-from}
 
-abbrev at : ℕ → ℕ → Pt
+abbrev pub at : ℕ → ℕ → Pt
 at x y = record { x = pos x; y = pos y; z = pos 0 }
 
-abbrev a : Pt
+abbrev pub a : Pt
 a = at 0 0
 
-abbrev b : Pt
+abbrev pub b : Pt
 b = at 4 0
 
-abbrev c : Pt
+abbrev pub c : Pt
 c = at 0 4
 
-abbrev triangle : Tri
+abbrev pub triangle : Tri
 triangle = record { a = a; b = b; c = c }
 
 abbrev mesh : List Tri
@@ -53,18 +53,18 @@ mesh = triangle ∷ []
 abbrev tagged : List Tagged
 tagged = record { tri = triangle; source = 0 } ∷ []
 
-abbrev edge : Pt → Pt → Edge
+abbrev pub edge : Pt → Pt → Edge
 edge u v = record { u = u; v = v }
 
 -- ---- its rim
 
-abbrev edges : List Edge
+abbrev pub edges : List Edge
 edges = edge a c ∷ edge a b ∷ edge c b ∷ []
 
-abbrev sums : List ℤ
+abbrev pub sums : List ℤ
 sums = negsuc 0 ∷ pos 1 ∷ negsuc 0 ∷ []
 
-three : (x y z : Bool) →
+pub three : (x y z : Bool) →
     cond x (negsuc 0) (pos 0) +ℤ (cond y (pos 1) (pos 0) +ℤ (cond z (negsuc 0) (pos 0) +ℤ pos 0))
     ≡ int_wrap w32 (cond y (pos 1) (pos 0) +ℤ (cond z (negsuc 0) (pos 0) +ℤ (cond x (negsuc 0) (pos 0) +ℤ pos 0)))
 unfolding int_wrap
@@ -80,7 +80,7 @@ three false false false = refl
 abbrev Before : Edge → Edge → Type 0
 Before e f = edge_cmp e f ≡ Less
 
-is-rim : IsRim edges sums
+pub is-rim : IsRim edges sums
 is-rim = record {
   ascending =
       AllPairs-cons Before (edge a c) (edge a b ∷ edge c b ∷ [])
@@ -109,7 +109,7 @@ rim-triangle =
     (λ e. three (same_edge (edge a c) e) (same_edge (edge a b) e) (same_edge (edge c b) e)) (λ e. refl) (omega arith)
 
 -- all three corners are locked
-abbrev locked : List Pt
+abbrev pub locked : List Pt
 locked = ends_of edges
 
 rim_points : AreRimPoints mesh locked
@@ -162,6 +162,20 @@ group = record { members = cluster ∷ []; error = 0; terminal = true; cube = re
 outcome : IsOutcome 2 1 group
 unfolding is_terminal join_of low_of high_of
 outcome = record {
+  locked = locked;
+  rim_points = rim_points;
+  kept = begun tagged;
+  simplified = simplified-triangle;
+  terminal = refl;
+  error = refl;
+  cube = refl;
+  made = refl;
+}
+
+-- in a level of two clusters it is terminal too, since all of its triangles are left, and so more than seven eighths
+pub terminal-seven_eighths : IsOutcome 2 2 group
+unfolding is_terminal join_of low_of high_of
+terminal-seven_eighths = record {
   locked = locked;
   rim_points = rim_points;
   kept = begun tagged;
