@@ -1,4 +1,5 @@
--- Worked examples of levels and their numbers, computed by the checker. A cluster has 2 triangles here, a group 2 clusters.
+-- Worked examples of levels and their numbers, computed by the checker. A cluster has 2 triangles here, a group 2
+-- clusters.
 use Rattle.std.specs.Prelude.{◌≡◌, ◌+◌, ◌*◌, true, false, ℕ, pos, List, [], ◌∷◌, map, Some, None, refl}
 use Rattle.geom_core.specs.declared.boxes.Cube.{Cube}
 use Rattle.geom_core.specs.declared.limits.TheConstants.{MAX_ERROR}
