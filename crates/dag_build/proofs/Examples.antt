@@ -1,4 +1,5 @@
--- Worked examples of levels and their numbers, computed by the checker, with 2 triangles a cluster and 2 clusters a group.
+-- Worked examples of levels and their numbers, computed by the checker. A cluster has 2 triangles here, a group 2
+-- clusters.
 use Rattle.std.specs.Prelude.{◌≡◌, ◌+◌, ◌*◌, true, false, ℕ, pos, List, [], ◌∷◌, map, Some, None, refl}
 use Rattle.geom_core.specs.declared.boxes.Cube.{Cube}
 use Rattle.geom_core.specs.declared.limits.TheConstants.{MAX_ERROR}
@@ -117,7 +118,8 @@ next_clusters-two = refl
 
 -- where the second group is the first of its level, the makers' place is 1
 pub next_clusters-place : map (λ cluster. cluster.maker) (next_clusters (second ∷ first ∷ [])) ≡
-    Some (record { group = 1; error = 3; cube = cube 0 8 }) ∷ Some (record { group = 1; error = 3; cube = cube 0 8 }) ∷ []
+    Some (record { group = 1; error = 3; cube = cube 0 8 })
+    ∷ Some (record { group = 1; error = 3; cube = cube 0 8 }) ∷ []
 unfolding made_from
 next_clusters-place = refl
 

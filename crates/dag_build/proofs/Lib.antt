@@ -7,6 +7,8 @@ pub mod CutLaws
 pub mod ElementLaws
 pub mod Entries
 pub mod ErrorLaws
+pub mod ExampleGroups
+pub mod ExampleLevels
 pub mod Examples
 pub mod GoodClusters
 pub mod GoodLevels

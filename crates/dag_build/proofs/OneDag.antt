@@ -212,7 +212,7 @@ abbrev has_first : {X : Type 0} → List X → Bool
 has_first [] = false
 has_first (x ∷ xs) = true
 
-nil≢cons : {X : Type 0} {x : X} {xs : List X} → [] ≡ x ∷ xs → ⊥
+pub nil≢cons : {X : Type 0} {x : X} {xs : List X} → [] ≡ x ∷ xs → ⊥
 nil≢cons same = true≢false (sym (ap has_first same))
 
 abbrev first_of : {X : Type 0} → X → List X → X

@@ -11,7 +11,7 @@ use Rattle.dag_build.specs.Outcomes.{AreRimPoints}
 among-from : (points : List Pt) (p : Pt) → Contains points p → is_among points p ≡ true
 among-from points p there = list_any-from (λ q. same_point q p) points p there (same_point-itself p)
 
-among-to : (points : List Pt) (p : Pt) → is_among points p ≡ true → Contains points p
+pub among-to : (points : List Pt) (p : Pt) → is_among points p ≡ true → Contains points p
 among-to points p among =
     let found : Passes (λ q. same_point q p) points = list_any-true (λ q. same_point q p) points among in
     subst (Contains points) (same_point-from found.item p found.passes) found.among
