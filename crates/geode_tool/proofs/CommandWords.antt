@@ -1,19 +1,23 @@
 -- The command that words ask for, by what the code tests of them.
 use Rattle.std.proofs.Common.{◌≡◌, ℕ, List, true, false, Some, None, option_map}
 use Rattle.geode_tool.specs.declared.commands.BoxRequest.{BoxRequest}
-use Rattle.geode_tool.specs.declared.commands.Command.TheVariants.{Draw, Audit, Make}
-use Rattle.geode_tool.specs.Words.{command_words, draw_words, make_words, is_audit}
+use Rattle.geode_tool.specs.declared.commands.Command.TheVariants.{Draw, Audit, Make, Build}
+use Rattle.geode_tool.specs.Words.{command_words, draw_words, make_words, is_audit, is_build}
 
 pub command_words-audit : (words : List (List ℕ)) → is_audit words ≡ true → command_words words ≡ Some Audit
 unfolding command_words
 command_words-audit words e = rw e
 
-pub command_words-make : (words : List (List ℕ)) (request : BoxRequest) → is_audit words ≡ false →
+pub command_words-build : (words : List (List ℕ)) → is_audit words ≡ false → is_build words ≡ true → command_words words ≡ Some Build
+unfolding command_words
+command_words-build words e b = rw (e, b)
+
+pub command_words-make : (words : List (List ℕ)) (request : BoxRequest) → is_audit words ≡ false → is_build words ≡ false →
     make_words words ≡ Some request → command_words words ≡ Some (Make request)
 unfolding command_words
-command_words-make words request e made = rw (e, made)
+command_words-make words request e b made = rw (e, b, made)
 
-pub command_words-other : (words : List (List ℕ)) → is_audit words ≡ false → make_words words ≡ None →
+pub command_words-other : (words : List (List ℕ)) → is_audit words ≡ false → is_build words ≡ false → make_words words ≡ None →
     command_words words ≡ option_map Draw (draw_words words)
 unfolding command_words
-command_words-other words e none = rw (e, none)
+command_words-other words e b none = rw (e, b, none)

@@ -23,7 +23,7 @@ use Rattle.geode_tool.specs.Internal.Unwritten.{StopsUnwritten}
 use Rattle.geode_tool.specs.Verdicts as verdicts
 use Rattle.geode_tool.proofs.Promise.{accepted-answers, outside-answers, refused-answers, IsMade}
 
-mesh_answer-from : (text : List ℕ) (found : Result (List Tri) ObjFault) → mesh STEPS_PER_UNIT text ≡ found → mesh_answer text ≡ tris_or_fault found
+pub mesh_answer-from : (text : List ℕ) (found : Result (List Tri) ObjFault) → mesh STEPS_PER_UNIT text ≡ found → mesh_answer text ≡ tris_or_fault found
 unfolding mesh_answer
 mesh_answer-from text found e = ap tris_or_fault e
 
@@ -85,7 +85,7 @@ known : (request : DrawRequest) (left : Option (List ℕ)) (why : ObjFault) → 
 known request None why answers = tt
 known request (Some text) why answers = refused-answers (mesh_answer text) (fault_of_obj why) (mesh_answer-from text (Err why) answers)
 
-obj-stops : (request : DrawRequest) (left new_left : Option (List ℕ)) (faults new_faults : ℕ) (why : ObjFault) → Refused STEPS_PER_UNIT left faults new_faults why → ReadsUpTo STEPS_PER_UNIT left new_left why → StopsUnwritten (Draw request) (inputs_of left) (inputs_of new_left) faults new_faults (fault_of_obj why)
+pub obj-stops : (request : DrawRequest) (left new_left : Option (List ℕ)) (faults new_faults : ℕ) (why : ObjFault) → Refused STEPS_PER_UNIT left faults new_faults why → ReadsUpTo STEPS_PER_UNIT left new_left why → StopsUnwritten (Draw request) (inputs_of left) (inputs_of new_left) faults new_faults (fault_of_obj why)
 obj-stops request left new_left faults new_faults (obj.Line line why) refused reads = record {
   answered = known request left (obj.Line line why) refused;
   may_return = inr (inr (inl refl));
@@ -155,10 +155,10 @@ memory_refused (Err e) request left new_left faults new_faults becomes =
       no_write = λ e. cc;
     })
 
-write-reads : (why : ObjFault) → WriteFault ≡ fault_of_obj why → ⊥
+pub write-reads : (why : ObjFault) → WriteFault ≡ fault_of_obj why → ⊥
 write-reads why e = no_write why (sym e)
 
-accepted : (request : DrawRequest) (left : Option (List ℕ)) (tris : List Tri) → Answers STEPS_PER_UNIT left (Ok tris) → verdicts.Answers IsOutside (verdict_of (Draw request) (inputs_of left)) (Ok Drawn)
+pub accepted : (request : DrawRequest) (left : Option (List ℕ)) (tris : List Tri) → Answers STEPS_PER_UNIT left (Ok tris) → verdicts.Answers IsOutside (verdict_of (Draw request) (inputs_of left)) (Ok Drawn)
 accepted request None tris listed = tt
 accepted request (Some text) tris listed = accepted-answers (mesh_answer text) tris Drawn (mesh_answer-from text (Ok tris) listed)
 

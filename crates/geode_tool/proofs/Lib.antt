@@ -1,5 +1,6 @@
 pub mod AuditAnswers
 pub mod AuditExamples
+pub mod BuildAnswers
 pub mod CameraWords
 pub mod CommandWords
 pub mod DrawAnswers

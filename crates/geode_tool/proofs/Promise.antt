@@ -5,7 +5,7 @@ use Rattle.std.specs.Result.{IsErrAnd}
 use Rattle.span_io.specs.Faults.{Rose}
 use Rattle.span_io.specs.Puts.{Appended}
 use Rattle.geode_tool.specs.declared.commands.Command.{Command}
-use Rattle.geode_tool.specs.declared.commands.Command.TheVariants.{Draw, Audit, Make}
+use Rattle.geode_tool.specs.declared.commands.Command.TheVariants.{Draw, Audit, Make, Build}
 use Rattle.geode_tool.specs.declared.faults.Done.{Done}
 use Rattle.geode_tool.specs.declared.faults.Fault.{Fault}
 use Rattle.geode_tool.specs.declared.faults.Fault.TheVariants.{Usage, ReadFault, TooLong, BadObj, TooMany, Empty, BadJournal, Illegal, WriteFault, Memory}
@@ -142,6 +142,10 @@ no_words Audit kind may = elim may [
   | inr more ↦ elim more [ inl length ↦ cc | inr rest ↦ elim rest [ inl journal ↦ cc | inr none ↦ none ] ]
 ]
 no_words (Make request) kind may = elim may [ inl outside ↦ cc | inr none ↦ none ]
+no_words Build kind may = elim may [
+  | inl outside ↦ cc
+  | inr more ↦ elim more [ inl length ↦ cc | inr rest ↦ elim rest [ inl mesh ↦ cc | inr none ↦ none ] ]
+]
 
 pub no_usage : {K : Type 0} (command : Command) (before after : Streams K) (r : Result Done Fault) (kind : UsageKind) → Holds command before after r → r ≡ Err (Usage kind) → ⊥
 no_usage command before after r kind holds e =

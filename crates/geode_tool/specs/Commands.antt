@@ -4,10 +4,11 @@ use Rattle.std.specs.Prelude.{ℕ, List, map, Option}
 use Rattle.std.specs.Borrow.{Bor}
 use Rattle.span_io.specs.Reads.{ReadToEnd}
 use Rattle.geode_tool.specs.declared.commands.Command.{Command}
-use Rattle.geode_tool.specs.declared.commands.Command.TheVariants.{Draw, Audit, Make}
+use Rattle.geode_tool.specs.declared.commands.Command.TheVariants.{Draw, Audit, Make, Build}
 use Rattle.geode_tool.specs.declared.faults.Done.{Done}
 use Rattle.geode_tool.specs.declared.faults.Fault.{Fault}
 use Rattle.geode_tool.specs.Audit.{audit_verdict, DoesAudit, AuditReadsUpTo}
+use Rattle.geode_tool.specs.Build.{build_verdict, BuildReadsUpTo, DoesBuild}
 use Rattle.geode_tool.specs.Draw.{draw_verdict, DoesDraw, DrawReadsUpTo}
 use Rattle.geode_tool.specs.Inputs.{Inputs}
 use Rattle.geode_tool.specs.Make.{make_verdict, DoesMake, ReadsNothing}
@@ -23,27 +24,32 @@ abbrev pub verdict_of : Command → Inputs → Verdict
 verdict_of (Draw request) inputs = draw_verdict inputs
 verdict_of Audit inputs = audit_verdict inputs
 verdict_of (Make request) inputs = make_verdict inputs
+verdict_of Build inputs = build_verdict inputs
 
 -- what a success of a command is, and the text that it writes; of what is not known, for some text
 abbrev pub Does : Command → Inputs → Done → List ℕ → Type 0
 Does (Draw request) inputs done text = DoesDraw request inputs done text
 Does Audit inputs done text = DoesAudit inputs done text
 Does (Make request) inputs done text = DoesMake request done text
+Does Build inputs done text = DoesBuild inputs done text
 
 -- what a success of a command has read: all input, or nothing if the command takes no input
 abbrev pub HasRead : Command → Inputs → Inputs → Type 0
 HasRead (Draw request) before after = ReadToEnd before.text after.text
 HasRead Audit before after = ReadToEnd before.text after.text
 HasRead (Make request) before after = ReadsNothing before after
+HasRead Build before after = ReadToEnd before.text after.text
 
 -- how far a command read its input before it was refused
 abbrev pub ReadsUpTo : Command → Inputs → Inputs → Fault → Type 0
 ReadsUpTo (Draw request) before after fault = DrawReadsUpTo before.text after.text fault
 ReadsUpTo Audit before after fault = AuditReadsUpTo before.text after.text fault
 ReadsUpTo (Make request) before after fault = ReadsNothing before after
+ReadsUpTo Build before after fault = BuildReadsUpTo before.text after.text fault
 
 -- the command takes all its memory before it writes
 abbrev pub TakesMemoryFirst : Command → Type 0
 TakesMemoryFirst (Draw request) = Unit {0}
 TakesMemoryFirst Audit = Unit {0}
 TakesMemoryFirst (Make request) = Unit {0}
+TakesMemoryFirst Build = Unit {0}

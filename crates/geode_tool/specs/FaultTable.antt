@@ -1,7 +1,7 @@
 -- The one table of faults: which of them are failures of the outside, and which may come in which command.
 use Rattle.std.specs.Prelude.{◌≡◌, ◌⊎◌, List, [], ◌∷◌}
 use Rattle.geode_tool.specs.declared.commands.Command.{Command}
-use Rattle.geode_tool.specs.declared.commands.Command.TheVariants.{Draw, Audit, Make}
+use Rattle.geode_tool.specs.declared.commands.Command.TheVariants.{Draw, Audit, Make, Build}
 use Rattle.geode_tool.specs.declared.faults.Fault.{Fault}
 use Rattle.geode_tool.specs.declared.faults.Fault.TheVariants.{Usage, ReadFault, TooLong, BadObj, TooMany, Empty, BadJournal, Illegal, WriteFault, Memory}
 
@@ -36,6 +36,7 @@ abbrev pub kinds_in : Command → List FaultKind
 kinds_in (Draw request) = Outside ∷ Length ∷ Mesh ∷ []
 kinds_in Audit = Outside ∷ Length ∷ Journal ∷ []
 kinds_in (Make request) = Outside ∷ []
+kinds_in Build = Outside ∷ Length ∷ Mesh ∷ []
 
 abbrev pub IsOneOf : FaultKind → List FaultKind → Type 0
 IsOneOf kind [] = ⊥

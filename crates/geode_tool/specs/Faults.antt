@@ -5,10 +5,12 @@ use Rattle.journal.specs.declared.journals.JournalFault.{JournalFault}
 use Rattle.journal.specs.declared.journals.JournalFault.TheVariants as journal
 use Rattle.residency.specs.declared.faults.ReplayFault.{ReplayFault}
 use Rattle.residency.specs.declared.faults.ReplayFault.TheVariants as replay
+use Rattle.page_file.specs.declared.page_writes.PageWrite.{PageWrite}
+use Rattle.page_file.specs.declared.page_writes.PageWrite.TheVariants as pages
 use Rattle.span_io.specs.declared.texts.TextFault.{TextFault}
 use Rattle.span_io.specs.declared.texts.TextFault.TheVariants as text
 use Rattle.geode_tool.specs.declared.faults.Fault.{Fault}
-use Rattle.geode_tool.specs.declared.faults.Fault.TheVariants.{ReadFault, TooLong, BadObj, TooMany, Empty, BadJournal, Illegal, Memory}
+use Rattle.geode_tool.specs.declared.faults.Fault.TheVariants.{ReadFault, TooLong, BadObj, TooMany, Empty, BadJournal, Illegal, WriteFault, Memory}
 
 -- from reading a mesh
 abbrev pub fault_of_obj : ObjFault → Fault
@@ -34,3 +36,8 @@ fault_of_journal journal.Memory = Memory
 abbrev pub fault_of_replay : ReplayFault → Fault
 fault_of_replay (replay.Illegal entry) = Illegal entry
 fault_of_replay replay.Memory = Memory
+
+-- from writing a page file
+abbrev pub fault_of_pages : PageWrite → Fault
+fault_of_pages pages.Memory = Memory
+fault_of_pages pages.Write = WriteFault

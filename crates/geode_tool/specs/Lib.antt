@@ -1,4 +1,5 @@
 pub mod Audit
+pub mod Build
 pub mod Commands
 pub mod Draw
 pub mod FaultTable

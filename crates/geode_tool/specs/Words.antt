@@ -1,5 +1,5 @@
--- The words of the commands: `draw` with a width, a height and a camera, `audit` alone, and `make` with a size and a
--- number.
+-- The words of the commands: `draw` with a width, a height and a camera, `audit` and `build` alone, and `make` with a
+-- size and a number.
 use Rattle.std.specs.Prelude.{◌==◌, ◌&&◌, ◌^◌, ℕ, ℤ, pos, neg_ℤ, nat_lt, nat_le, Bool, false, List, [], ◌∷◌, length, drop, slice_index, Option, Some, None, option_map, option_and_then, is_none, bytes_eq, codes, if◌then◌else◌}
 use Rattle.std.specs.List.{slice_split, list_all}
 use Rattle.std.specs.Char.{is_ascii_digit}
@@ -8,7 +8,7 @@ use Rattle.std.specs.Str.Parse.{digits_value}
 use Rattle.geom_core.specs.Camera.{View}
 use Rattle.geom_core.specs.Limits.{is_side}
 use Rattle.geode_tool.specs.declared.commands.Command.{Command}
-use Rattle.geode_tool.specs.declared.commands.Command.TheVariants.{Draw, Audit, Make}
+use Rattle.geode_tool.specs.declared.commands.Command.TheVariants.{Draw, Audit, Make, Build}
 use Rattle.geode_tool.specs.declared.commands.BoxRequest.{BoxRequest}
 use Rattle.geode_tool.specs.declared.commands.DrawRequest.{DrawRequest}
 use Rattle.shape_gen.specs.declared.lattice.TheConstants.{MAX_BOX_SIZE}
@@ -74,6 +74,11 @@ abbrev pub is_audit : List (List ℕ) → Bool
 is_audit (name ∷ []) = bytes_eq name (codes "audit")
 is_audit _ = false
 
+-- the words are `build` alone
+abbrev pub is_build : List (List ℕ) → Bool
+is_build (name ∷ []) = bytes_eq name (codes "build")
+is_build _ = false
+
 -- a box can have this many cells along an edge
 abbrev pub is_box_size : ℕ → Bool
 is_box_size n = nat_le 1 n && nat_le n MAX_BOX_SIZE
@@ -108,4 +113,7 @@ make_or_draw None drawn = option_map Draw drawn
 
 -- the command that the words ask for
 unfoldable pub command_words : List (List ℕ) → Option Command
-command_words words = if is_audit words then Some Audit else make_or_draw (make_words words) (draw_words words)
+command_words words =
+    if is_audit words then Some Audit
+    else (if is_build words then Some Build
+    else make_or_draw (make_words words) (draw_words words))

@@ -5,7 +5,7 @@ ghost use Rattle.std.specs.Str.{byte};
 ghost use Rattle.std.specs.Str.Parse.{digits_value};
 ghost use Rattle.geom_core.specs.Limits.{is_side, IsPicture, IsSide};
 ghost use Rattle.shape_gen.specs.Lattice.{IsBoxSize};
-ghost use Rattle.geode_tool.specs.Words.{command_words, is_audit};
+ghost use Rattle.geode_tool.specs.Words.{command_words, is_audit, is_build};
 ghost use Rattle.geode_tool.specs.Words.{make_words, is_box_size, box_size, box_number};
 ghost use Rattle.geode_tool.specs.Words.{draw_words, whole_number, signed_number, side, camera};
 ghost use Rattle.geode_tool.specs.Words.{is_numeral, numbers_of, fifteen};
@@ -35,6 +35,8 @@ pub enum Command {
     Audit,
     /// `make`: writes the text of a box.
     Make(BoxRequest),
+    /// `build`: writes the page file of a mesh's levels of detail.
+    Build,
 }
 
 /// The arguments of `make`.
@@ -66,6 +68,9 @@ pub(crate) fn command_of(words: &[&str]) -> Option<Command>
     if is_audit(words) {
         return Some(Command::Audit);
     }
+    if is_build(words) {
+        return Some(Command::Build);
+    }
     if let Some(request) = make_of(words) {
         return Some(Command::Make(request));
     }
@@ -78,6 +83,16 @@ fn is_audit(words: &[&str]) -> bool
 {
     match words {
         [name] => *name == "audit",
+        _ => false,
+    }
+}
+
+/// Whether the words are `build` alone.
+fn is_build(words: &[&str]) -> bool
+    ensures { result ≡ is_build (map (λ w. w.now) words.now) }
+{
+    match words {
+        [name] => *name == "build",
         _ => false,
     }
 }
@@ -251,12 +266,15 @@ mod tests {
 
     #[test]
     fn words_are_taken(rt: HostRuntime) {
-        let cases: [(&str, &[&str], bool); 22] = [
+        let cases: [(&str, &[&str], bool); 25] = [
             ("a drawing", &["draw", "4", "4", CAMERA], true),
             ("zeros first", &["draw", "0004", "0000000512", CAMERA], true),
             ("an audit", &["audit"], true),
             ("a word after `audit`", &["audit", CAMERA], false),
             ("`audit` in upper case", &["Audit"], false),
+            ("a build", &["build"], true),
+            ("a word after `build`", &["build", ""], false),
+            ("the start of `build`", &["buil"], false),
             ("the words of both", &["audit", "4", "4", CAMERA], false),
             ("a box", &["make", "295", "4294967295"], true),
             ("zeros before a box", &["make", "0001", "00"], true),

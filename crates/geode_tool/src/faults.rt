@@ -1,9 +1,11 @@
 ghost use Rattle.std.specs.Prelude.{◌≡◌};
 ghost use Rattle.geode_tool.specs.Statuses.{status_of};
 
+use dag_core::Counts;
 use geom_core::Memory;
 use journal::JournalFault;
 use obj_source::{ObjFault, ObjWhy};
+use page_file::PageWrite;
 use residency::ReplayFault;
 use span_io::TextFault;
 use thiserror::Error;
@@ -20,6 +22,11 @@ pub enum Done {
     },
     /// `make` wrote the text of the box.
     Made,
+    /// `build` wrote the page file.
+    Built(
+        /// The counts that the file's header states.
+        Counts,
+    ),
 }
 
 /// What is wrong with a command line.
@@ -33,7 +40,7 @@ pub enum UsageKind {
 /// Why a command was not done. Neither copied nor compared: variants to come hold lists.
 ///
 /// `Usage` comes before anything is read. `ReadFault`, `WriteFault` and `Memory` are failures of the outside.
-/// The others are facts of the text, by its lines and not in one order: in `draw` the first line with a fault
+/// The others are facts of the text, by its lines and not in one order: in `draw` and `build` the first line with a fault
 /// decides, so that `TooMany` of line 5 comes before `BadObj` of line 6, and `TooLong` and `Empty` come if no line
 /// has a fault; in `audit` `TooLong` comes first, then `BadJournal`, then `Illegal`.
 #[derive(Debug, Drop, Error)]
@@ -44,7 +51,7 @@ pub enum Fault {
     /// The input failed before its end; nothing was written.
     #[error("input could not be read")]
     ReadFault,
-    /// The input is longer than `MAX_OBJ_BYTES` (`draw`, if no line that ends within them has a fault) or
+    /// The input is longer than `MAX_OBJ_BYTES` (`draw` and `build`, if no line that ends within them has a fault) or
     /// `MAX_JOURNAL_BYTES` (`audit`); nothing was written.
     #[error("input too long")]
     TooLong,
@@ -78,7 +85,7 @@ pub enum Fault {
     /// The output failed; a prefix of the result was written, possibly empty or complete.
     #[error("output could not be written")]
     WriteFault,
-    /// Memory ran out; nothing was written by `draw`, `audit` or `make`, which take all their memory first.
+    /// Memory ran out; nothing was written, since each command takes all its memory first.
     #[error("out of memory")]
     Memory,
 }
@@ -120,6 +127,19 @@ impl From<TextFault> for Fault {
             TextFault::Read => Fault::ReadFault,
             TextFault::TooLong => Fault::TooLong,
             TextFault::Memory => Fault::Memory,
+        }
+    }
+}
+
+impl From<PageWrite> for Fault {
+    ghost use Rattle.geode_tool.specs.Faults.{fault_of_pages};
+
+    ghost from_gives = { λ part fault. fault ≡ fault_of_pages part };
+
+    fn from(part: PageWrite) -> Fault {
+        match part {
+            PageWrite::Memory => Fault::Memory,
+            PageWrite::Write => Fault::WriteFault,
         }
     }
 }

@@ -6,6 +6,7 @@
 #![tactic(auto)]
 
 mod audit_command;
+mod build_command;
 #[cfg(test)]
 mod audit_tests;
 mod commands;

@@ -1,6 +1,7 @@
 ghost use Rattle.std.specs.Prelude.{◌≤◌};
 
 use crate::{Done, Fault, UsageKind, geode};
+use dag_core::Counts;
 use geom_core::Memory;
 use obj_source::ObjWhy;
 use span_io::{MemorySink, MemorySource};
@@ -147,7 +148,7 @@ pub(crate) const SOUND: Calls = Calls {
 /// What a run came to, and what the run wrote.
 #[derive(Drop)]
 pub(crate) struct Outcome {
-    /// `drawn`, `audited N`, `made`, or the line of the fault.
+    /// `drawn`, `audited N`, `made`, `built` and the five counts, or the line of the fault.
     pub(crate) said: String,
     pub(crate) written: Vec<u8>,
 }
@@ -158,12 +159,25 @@ impl Outcome {
     }
 }
 
+/// Returns the counts of a file that was built, as a text.
+fn said_built(alloc: Global, counts: Counts) -> Result<String, Memory> {
+    let Counts {
+        groups,
+        clusters,
+        pages,
+        roots,
+        sources,
+    } = counts;
+    Ok(format!(in alloc; "built {groups} {clusters} {pages} {roots} {sources}")?)
+}
+
 /// Returns an answer as a text.
 fn said(alloc: Global, answer: &Result<Done, Fault>) -> Result<String, Memory> {
     Ok(match answer {
         Ok(Done::Drawn) => format!(in alloc; "drawn")?,
         Ok(Done::Audited { entries }) => format!(in alloc; "audited {entries}")?,
         Ok(Done::Made) => format!(in alloc; "made")?,
+        Ok(Done::Built(counts)) => said_built(alloc, *counts)?,
         Err(fault) => format!(in alloc; "{fault}")?,
     })
 }

@@ -5,6 +5,7 @@ ghost use Rattle.geode_tool.specs.Inputs.{streams};
 ghost use Rattle.geode_tool.specs.declared.commands.BoxRequest.{BoxRequest};
 
 use crate::audit_command::audit;
+use crate::build_command::build;
 use crate::commands::{Command, command_of};
 use crate::draw_command::draw;
 use crate::faults::{Done, Fault, UsageKind};
@@ -52,6 +53,7 @@ pub fn geode<S: Source, K: Sink>(
         None => Err(Fault::Usage(UsageKind::Line)),
         Some(Command::Draw(request)) => draw(alloc, &request, input, out),
         Some(Command::Audit) => audit(alloc, input, out),
+        Some(Command::Build) => build(alloc, input, out),
         Some(Command::Make(request)) => make(alloc, &request, out),
     }
 }
