@@ -184,7 +184,8 @@ box-made = refl
 
 -- the triangles grow along their edges: each square is a cluster, in the order of the squares
 pub cut-two_squares : AreCut 2 (numbered 0 (lower 0 ∷ upper 0 ∷ lower 1 ∷ upper 1 ∷ [])) (leaf 0 ∷ leaf 1 ∷ [])
-unfolding numbered is_grown is_next share_edge same_edge same_point batches_of edges_of low_of morton_of cell_of interleave
+unfolding numbered is_grown is_next share_edge same_edge same_point batches_of edges_of low_of morton_of cell_of
+    interleave
 cut-two_squares = record {
   batches = (0 ∷ 1 ∷ []) ∷ (2 ∷ 3 ∷ []) ∷ [];
   grown = record { grown = refl; split = refl };

@@ -10,7 +10,9 @@ pub no_refusal : (rule : ℕ) (test : ℕ → Bool) (place : Option ℕ) (fault 
 no_refusal rule test None fault first kept told = cc
 no_refusal rule test (Some place) fault first kept told = both_ways (test place) (kept place) first.0
 
-pub none_refused : (rule : ℕ) (test : ℕ → Bool) (place : Option ℕ) (result : Result (Unit {0}) CheckFault) → IsFirstPlace test place →
+pub none_refused : (rule : ℕ) (test : ℕ → Bool) (place : Option ℕ) (result : Result (Unit {0}) CheckFault) →
+    IsFirstPlace test place →
     ((index : ℕ) → test index ≡ false) → result ≡ refusal_of rule place → IfErr result (λ fault. fault ≡ Memory)
-none_refused rule test None result first kept told = subst (λ (r : Result (Unit {0}) CheckFault). IfErr r (λ fault. fault ≡ Memory)) (sym told) tt
+none_refused rule test None result first kept told =
+    subst (λ (r : Result (Unit {0}) CheckFault). IfErr r (λ fault. fault ≡ Memory)) (sym told) tt
 none_refused rule test (Some place) result first kept told = absurd (both_ways (test place) (kept place) first.0)

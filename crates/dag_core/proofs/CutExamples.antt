@@ -1,6 +1,10 @@
--- Worked examples of cuts and of sets of pages, computed by the checker: the two squares, a chain, and groups that share
+-- Worked examples of cuts and of sets of pages, computed by the checker: the two squares, a chain, and groups that
+-- share
 -- a page.
-use Rattle.std.proofs.Common.{◌≡◌, ◌<◌, ◌+◌, ◌⊎◌, ℕ, zero, suc, true, false, Some, List, [], ◌∷◌, ◌++◌, map, get_or, IsTrue, refl, arith, sym, subst, inl, inr}
+use Rattle.std.proofs.Common.{
+  ◌≡◌, ◌<◌, ◌+◌, ◌⊎◌, ℕ, zero, suc, true, false, Some, List, [], ◌∷◌, ◌++◌, map, get_or, IsTrue, refl, arith, sym,
+  subst, inl, inr,
+}
 use Rattle.std.specs.List.{range_with_len}
 use Rattle.std.proofs.lemmas.Bool.{cases_lt}
 use Rattle.std.proofs.lemmas.Bool.Decides.{nat_tests}
@@ -17,7 +21,10 @@ use Rattle.dag_core.specs.Members.{cluster_at, group_at, home}
 use Rattle.dag_core.specs.PageSets.{IsNeed, above_of, coarse_pages, has_page, missing_of}
 use Rattle.dag_core.specs.Pages.{has_terminal_on, is_upper, tris_on}
 use Rattle.dag_core.specs.Ranges.{IsInRange}
-use Rattle.dag_core.specs.Rules.{Checked, breaks_bound, breaks_maker, breaks_members, breaks_page, breaks_terminal, has_made, is_outgrown, members_before}
+use Rattle.dag_core.specs.Rules.{
+  Checked, breaks_bound, breaks_maker, breaks_members, breaks_page, breaks_terminal, has_made, is_outgrown,
+  members_before,
+}
 use Rattle.dag_core.specs.Triangles.{tris_at}
 use Rattle.dag_core.specs.Internal.RangeTests.{are_counts_in_range, is_cluster_in_range, is_group_in_range}
 use Rattle.dag_core.proofs.Examples.{chain_of}
@@ -25,7 +32,9 @@ use Rattle.dag_core.proofs.HalvingLaws.{checked_in_turn}
 use Rattle.dag_core.proofs.PageSetLaws.{all_pages_closed, below_all}
 use Rattle.dag_core.proofs.RangeTestLaws.{range_from}
 use Rattle.dag_core.proofs.RuleLaws.{bound_beyond, maker_beyond, members_beyond, page_beyond, terminal_beyond}
-use Rattle.dag_core.proofs.TwoSquares.{coarse_square, fine_square, flat_point, leaf_of_four, left, made_of_two, right, two_squares, two_squares_heads, whole}
+use Rattle.dag_core.proofs.TwoSquares.{
+  coarse_square, fine_square, flat_point, leaf_of_four, left, made_of_two, right, two_squares, two_squares_heads, whole,
+}
 use Rattle.dag_core.proofs.TwoSquaresLaws.{checked_from, none_from_search}
 
 -- a lens whose eye is the middle of square 1, with this focal length and tolerance
@@ -44,7 +53,8 @@ unfolding is_coarse box_distance outside
 group_1_at_focal_4096 = refl
 
 -- 64 is more than 63 and not more than 64
-pub as_much_as_the_tolerance : map (λ tolerance. is_coarse_group (lens_of 1 tolerance) left) (63 ∷ 64 ∷ []) ≡ true ∷ false ∷ []
+pub as_much_as_the_tolerance : map (λ tolerance. is_coarse_group (lens_of 1 tolerance) left)
+    (63 ∷ 64 ∷ []) ≡ true ∷ false ∷ []
 unfolding is_coarse box_distance outside
 as_much_as_the_tolerance = refl
 
@@ -69,18 +79,21 @@ unfolding is_coarse box_distance outside is_open home
 cuts_without_the_root = refl
 
 -- with all pages resident, at tolerances of which one keeps both groups coarse, one group 1 alone, and one none
-pub cuts_by_tolerance : map (λ tolerance. cut_of two_squares_heads (lens_of 1 tolerance) (0 ∷ 1 ∷ 2 ∷ [])) (5 ∷ 6 ∷ 64 ∷ [])
+pub cuts_by_tolerance : map (λ tolerance. cut_of two_squares_heads (lens_of 1 tolerance) (0 ∷ 1 ∷ 2 ∷ []))
+    (5 ∷ 6 ∷ 64 ∷ [])
     ≡ (2 ∷ 3 ∷ []) ∷ (1 ∷ 2 ∷ []) ∷ (0 ∷ 1 ∷ []) ∷ []
 unfolding is_coarse box_distance outside is_open home
 cuts_by_tolerance = refl
 
 -- the triangles of a cut: those of cluster 1, then those of cluster 2, numbered in each
-pub triangles_of_a_cut : cut_tris (λ c. tris_of (tris_at two_squares c)) (cut_of two_squares_heads (lens_of 1 0) (0 ∷ 1 ∷ []))
+pub triangles_of_a_cut : cut_tris (λ c. tris_of (tris_at two_squares c))
+    (cut_of two_squares_heads (lens_of 1 0) (0 ∷ 1 ∷ []))
     ≡ tris_of (coarse_square 16 4 ++ fine_square 0 0)
 unfolding is_coarse box_distance outside is_open home
 triangles_of_a_cut = refl
 
-pub numbers_of_items : map {B = ℕ × ℕ} (λ (item : Item). (item.cluster, item.place)) (cut_items (λ c. tris_of (tris_at two_squares c)) (1 ∷ 2 ∷ []))
+pub numbers_of_items : map {B = ℕ × ℕ} (λ (item : Item). (item.cluster, item.place))
+    (cut_items (λ c. tris_of (tris_at two_squares c)) (1 ∷ 2 ∷ []))
     ≡ (1, 0) ∷ (1, 1) ∷ (2, 0) ∷ (2, 1) ∷ (2, 2) ∷ (2, 3) ∷ []
 numbers_of_items = refl
 
@@ -110,12 +123,14 @@ path_of_square_1 = record {
   clusters = λ k below. two_numbers (λ k. get_or (2 ∷ 0 ∷ []) k 0 < 4) (omega arith) (omega arith) k below;
   leaf = refl;
   made = λ k next. elim (cases_lt k 1) [
-    | inl less ↦ let e : k ≡ 0 = omega arith in subst (λ n. (cluster_at two_squares_heads (get_or (2 ∷ 0 ∷ []) (n + 1) 0)).made
+    | inl less ↦ let e : k ≡ 0 =
+        omega arith in subst (λ n. (cluster_at two_squares_heads (get_or (2 ∷ 0 ∷ []) (n + 1) 0)).made
         ≡ Some (home two_squares_heads (get_or (2 ∷ 0 ∷ []) n 0))) (sym e) refl
     | inr more ↦ absurd (omega (arith, next))
   ];
   end = λ k last. let e : k ≡ 1 = omega arith in
-      subst (λ n. IsTrue (group_at two_squares_heads (home two_squares_heads (get_or (2 ∷ 0 ∷ []) n 0))).terminal) (sym e) refl;
+      subst (λ n. IsTrue (group_at two_squares_heads (home two_squares_heads (get_or (2 ∷ 0 ∷ []) n 0))).terminal)
+          (sym e) refl;
 }
   where
     two_numbers : (P : ℕ → Type 0) → P 0 → P 1 → (k : ℕ) → k < 2 → P k
@@ -150,10 +165,12 @@ unfolding are_counts_in_range is_group_in_range is_cluster_in_range is_under
 shared_page_range = range_from shared_page (record { counts = refl; groups = refl; clusters = refl })
 
 pub shared_page_checked : Checked shared_page
-unfolding home tris_on has_terminal_on is_upper members_before breaks_members breaks_maker has_made breaks_terminal is_outgrown breaks_bound breaks_page is_under holds_box
+unfolding home tris_on has_terminal_on is_upper members_before breaks_members breaks_maker has_made breaks_terminal
+    is_outgrown breaks_bound breaks_page is_under holds_box
 shared_page_checked =
     checked_from shared_page
-    (none_from_search (breaks_members shared_page) 5 refl (λ place from. members_beyond shared_page place (omega arith)))
+    (none_from_search (breaks_members shared_page) 5 refl
+        (λ place from. members_beyond shared_page place (omega arith)))
     (none_from_search (breaks_maker shared_page) 5 refl (λ place from. maker_beyond shared_page place from))
     (none_from_search (breaks_terminal shared_page) 4 refl (λ place from. terminal_beyond shared_page place from))
     (none_from_search (breaks_bound shared_page) 5 refl (λ place from. bound_beyond shared_page place from))

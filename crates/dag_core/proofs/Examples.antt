@@ -13,12 +13,22 @@ use Rattle.dag_core.specs.declared.heads.Heads.{Heads}
 use Rattle.dag_core.specs.declared.dags.Dag.{Dag}
 use Rattle.dag_core.specs.Members.{members, home, made_by}
 use Rattle.dag_core.specs.Pages.{clusters_on, tris_on, has_terminal_on, is_upper, uppers_of}
-use Rattle.dag_core.specs.Ranges.{is_count_in_range, is_error, is_group_box, is_page, are_members, is_group_or_none, is_cluster_size}
+use Rattle.dag_core.specs.Ranges.{
+  is_count_in_range, is_error, is_group_box, is_page, are_members, is_group_or_none, is_cluster_size,
+}
 use Rattle.dag_core.specs.declared.counts.Counts.{Counts}
-use Rattle.dag_core.specs.Rules.{members_before, breaks_members, breaks_maker, has_made, breaks_terminal, is_outgrown, breaks_bound, breaks_page, breaks}
+use Rattle.dag_core.specs.Rules.{
+  members_before, breaks_members, breaks_maker, has_made, breaks_terminal, is_outgrown, breaks_bound, breaks_page,
+  breaks,
+}
 use Rattle.dag_core.specs.Triangles.{leaves, source_of, HasTris}
-use Rattle.dag_core.specs.TriangleRules.{have_same_sums, breaks_sums, breaks_source, is_near, is_near_source, breaks_corners, dag_breaks}
-use Rattle.dag_core.proofs.TwoSquares.{flat_point, sourced, corner_a, corner_b, corner_c, corner_d, middle, fine_square, coarse_square, whole, left, right, made_of_two, leaf_of_four, two_squares_clusters, two_squares_heads, two_squares}
+use Rattle.dag_core.specs.TriangleRules.{
+  have_same_sums, breaks_sums, breaks_source, is_near, is_near_source, breaks_corners, dag_breaks,
+}
+use Rattle.dag_core.proofs.TwoSquares.{
+  flat_point, sourced, corner_a, corner_b, corner_c, corner_d, middle, fine_square, coarse_square, whole, left, right,
+  made_of_two, leaf_of_four, two_squares_clusters, two_squares_heads, two_squares,
+}
 
 abbrev heads_of : List Group → List ClusterHead → Heads
 heads_of groups clusters = record { groups = groups; clusters = clusters; pages = 3; roots = 1; sources = 8 }
@@ -46,7 +56,8 @@ homes_of_each = refl
 pub made_by_each : map (made_by two_squares_heads) (range_with_len 0 3) ≡ [] ∷ (0 ∷ []) ∷ (1 ∷ []) ∷ []
 made_by_each = refl
 
-pub clusters_on_each : map (clusters_on two_squares_heads) (range_with_len 0 3) ≡ (0 ∷ 1 ∷ []) ∷ (2 ∷ []) ∷ (3 ∷ []) ∷ []
+pub clusters_on_each : map (clusters_on two_squares_heads) (range_with_len 0 3) ≡ (0 ∷ 1 ∷ []) ∷ (2 ∷ []) ∷
+    (3 ∷ []) ∷ []
 unfolding home
 clusters_on_each = refl
 
@@ -61,7 +72,8 @@ uppers_of_each = refl
 -- ---- the two squares break no rule of the heads
 
 pub two_squares_break_nothing : all_broken two_squares_heads ≡ nowhere ∷ nowhere ∷ nowhere ∷ nowhere ∷ nowhere ∷ []
-unfolding home tris_on has_terminal_on is_upper members_before breaks_members breaks_maker has_made breaks_terminal is_outgrown breaks_bound breaks_page is_under holds_box
+unfolding home tris_on has_terminal_on is_upper members_before breaks_members breaks_maker has_made breaks_terminal
+    is_outgrown breaks_bound breaks_page is_under holds_box
 two_squares_break_nothing = refl
 
 -- ---- one change each
@@ -72,7 +84,8 @@ grouped a b c = heads_of (a ∷ b ∷ c ∷ []) two_squares_clusters
 
 -- the two squares with these makers of clusters 0 and 1
 abbrev made_by_groups : ℕ → ℕ → Heads
-made_by_groups a b = heads_of (whole ∷ left ∷ right ∷ []) (made_of_two a ∷ made_of_two b ∷ leaf_of_four ∷ leaf_of_four ∷ [])
+made_by_groups a b =
+    heads_of (whole ∷ left ∷ right ∷ []) (made_of_two a ∷ made_of_two b ∷ leaf_of_four ∷ leaf_of_four ∷ [])
 
 -- rule 1: a group's members begin before those of the group before it end
 pub first_too_early : broken_at 1 6 (grouped whole (record left { first = 1 }) right) ≡ 1 ∷ []
@@ -104,14 +117,16 @@ unfolding has_made breaks_terminal
 group_made_none = refl
 
 -- rule 4: the maker's box reaches out of the home's
-pub box_reaches_out : broken_at 4 6 (grouped whole (record left { cube = record { lo = corner_a 0; hi = flat_point 25 8 } }) right) ≡ 0 ∷ []
+pub box_reaches_out : broken_at 4 6 (grouped whole
+    (record left { cube = record { lo = corner_a 0; hi = flat_point 25 8 } }) right) ≡ 0 ∷ []
 unfolding home is_outgrown breaks_bound is_under holds_box
 box_reaches_out = refl
 
 -- a chain of three groups of one cluster each, on pages 0, 1 and 2, with these errors
 abbrev pub chain_of : ℕ → ℕ → ℕ → Heads
 chain_of a b c =
-    heads_of (record whole { error = a; count = 1 } ∷ record left { error = b; first = 1 } ∷ record left { error = c; page = 2; first = 2 } ∷ [])
+    heads_of (record whole { error = a; count = 1 } ∷ record left { error = b; first = 1 } ∷ record left
+        { error = c; page = 2; first = 2 } ∷ [])
     (made_of_two 1 ∷ made_of_two 2 ∷ leaf_of_four ∷ [])
 
 -- rule 4: an error greater than the home's; an equal one is none, nor any error under a terminal home
@@ -124,7 +139,8 @@ unfolding home is_outgrown breaks_bound is_under holds_box
 equal_errors = refl
 
 pub terminal_home_of_less_error : all_broken (chain_of 5 7 7) ≡ nowhere ∷ nowhere ∷ nowhere ∷ nowhere ∷ nowhere ∷ []
-unfolding home tris_on has_terminal_on is_upper members_before breaks_members breaks_maker has_made breaks_terminal is_outgrown breaks_bound breaks_page is_under holds_box
+unfolding home tris_on has_terminal_on is_upper members_before breaks_members breaks_maker has_made breaks_terminal
+    is_outgrown breaks_bound breaks_page is_under holds_box
 terminal_home_of_less_error = refl
 
 -- rule 5: no triangle on page 1
@@ -134,7 +150,9 @@ page_without_triangles = refl
 
 -- rule 5: both sides of the most triangles
 abbrev one_page : ℕ → Heads
-one_page tris = record { groups = record whole { count = 1 } ∷ []; clusters = record { made = None; tris = tris } ∷ []; pages = 1; roots = 1; sources = 1 }
+one_page tris =
+    record { groups = record whole { count = 1 } ∷ []; clusters = record { made = None; tris = tris } ∷ []; pages =
+    1; roots = 1; sources = 1 }
 
 pub page_of_1638 : broken_at 5 3 (one_page 1638) ≡ nowhere
 unfolding home tris_on has_terminal_on is_upper breaks_page
@@ -145,7 +163,9 @@ unfolding home tris_on has_terminal_on is_upper breaks_page
 page_of_1639 = refl
 
 -- rule 5: a terminal group on page 1; where page 1 is a root page it may be there, as may a group that isn't terminal
-pub terminal_group_on_page_1 : broken_at 5 6 (record two_squares_heads { groups = record whole { page = 1 } ∷ record left { page = 0 } ∷ right ∷ [] }) ≡ 0 ∷ 1 ∷ []
+pub terminal_group_on_page_1 : broken_at 5 6
+    (record two_squares_heads { groups = record whole { page = 1 } ∷ record left { page = 0 } ∷ right ∷ [] }) ≡ 0 ∷ 1
+    ∷ []
 unfolding home tris_on has_terminal_on is_upper breaks_page
 terminal_group_on_page_1 = refl
 
@@ -154,25 +174,31 @@ unfolding home tris_on has_terminal_on is_upper breaks_page
 two_root_pages = refl
 
 -- rule 5: an upper above its page, one page up and two pages up
-pub upper_one_page_up : broken_at 5 6 (record two_squares_heads { groups = record whole { page = 1 } ∷ record left { page = 0 } ∷ right ∷ []; roots = 2 }) ≡ 0 ∷ []
+pub upper_one_page_up : broken_at 5 6 (record two_squares_heads
+    { groups = record whole { page = 1 } ∷ record left { page = 0 } ∷ right ∷ []; roots = 2 }) ≡ 0 ∷ []
 unfolding home tris_on has_terminal_on is_upper breaks_page
 upper_one_page_up = refl
 
-pub upper_two_pages_up : broken_at 5 6 (record two_squares_heads { groups = record whole { page = 2 } ∷ record left { page = 0 } ∷ record right { page = 1 } ∷ []; roots = 3 }) ≡ 0 ∷ 1 ∷ []
+pub upper_two_pages_up : broken_at 5 6 (record two_squares_heads
+    { groups = record whole { page = 2 } ∷ record left { page = 0 } ∷ record right { page = 1 } ∷ []; roots = 3 }) ≡ 0 ∷
+    1 ∷ []
 unfolding home tris_on has_terminal_on is_upper breaks_page
 upper_two_pages_up = refl
 
 -- ---- ranges, both sides of each bound
 
-pub counts_of_groups : map (λ n. is_count_in_range (record { groups = n; clusters = 1; pages = 1; roots = 1; sources = 1 }) 0) (0 ∷ 1 ∷ 8388608 ∷ 8388609 ∷ []) ≡
+pub counts_of_groups : map (λ n. is_count_in_range
+    (record { groups = n; clusters = 1; pages = 1; roots = 1; sources = 1 }) 0) (0 ∷ 1 ∷ 8388608 ∷ 8388609 ∷ []) ≡
     false ∷ true ∷ true ∷ false ∷ []
 counts_of_groups = refl
 
-pub counts_of_roots : map (λ n. is_count_in_range (record { groups = 1; clusters = 1; pages = 3; roots = n; sources = 1 }) 3) (0 ∷ 1 ∷ 3 ∷ 4 ∷ []) ≡
+pub counts_of_roots : map (λ n. is_count_in_range
+    (record { groups = 1; clusters = 1; pages = 3; roots = n; sources = 1 }) 3) (0 ∷ 1 ∷ 3 ∷ 4 ∷ []) ≡
     false ∷ true ∷ true ∷ false ∷ []
 counts_of_roots = refl
 
-pub counts_of_sources : map (λ n. is_count_in_range (record { groups = 1; clusters = 1; pages = 1; roots = 1; sources = n }) 4) (0 ∷ 1 ∷ 1048576 ∷ 1048577 ∷ []) ≡
+pub counts_of_sources : map (λ n. is_count_in_range
+    (record { groups = 1; clusters = 1; pages = 1; roots = 1; sources = n }) 4) (0 ∷ 1 ∷ 1048576 ∷ 1048577 ∷ []) ≡
     false ∷ true ∷ true ∷ false ∷ []
 counts_of_sources = refl
 
@@ -215,7 +241,8 @@ abbrev dag_with : List (List Tagged) → Dag
 dag_with tris = record { heads = two_squares_heads; tris = tris }
 
 pub two_squares_are_sound : dag_broken two_squares ≡ nowhere ∷ nowhere ∷ nowhere ∷ []
-unfolding have_same_sums breaks_sums breaks_source is_near is_near_source breaks_corners distance same_point edges_of edge_count edge_sum
+unfolding have_same_sums breaks_sums breaks_source is_near is_near_source breaks_corners distance same_point edges_of
+    edge_count edge_sum
 two_squares_are_sound = refl
 
 pub two_squares_leaves : leaves two_squares_heads ≡ 2 ∷ 3 ∷ []
@@ -243,7 +270,8 @@ pub corner_moved_by_5 : dag_broken (dag_with (
     (sourced (flat_point 13 0) (corner_c 0) (corner_a 0) 1 ∷ sourced (corner_c 0) (corner_d 0) (corner_a 0) 2 ∷ [])
     ∷ coarse_square 16 4 ∷ fine_square 0 0 ∷ fine_square 16 4 ∷ []))
     ≡ (1 ∷ []) ∷ nowhere ∷ (0 ∷ []) ∷ []
-unfolding have_same_sums breaks_sums breaks_source is_near is_near_source breaks_corners distance same_point edges_of edge_count edge_sum
+unfolding have_same_sums breaks_sums breaks_source is_near is_near_source breaks_corners distance same_point edges_of
+    edge_count edge_sum
 corner_moved_by_5 = refl
 
 -- the square whose low corner is the origin, round this point
@@ -252,13 +280,17 @@ fan_round m = sourced (corner_a 0) (corner_b 0) m 0 ∷ sourced (corner_b 0) (co
     ∷ sourced (corner_c 0) (corner_d 0) m 2 ∷ sourced (corner_d 0) (corner_a 0) m 3 ∷ []
 
 -- the leaf's middle moved keeps all sums; moved by 1 it is at (5, 4), 5 from where the coarse cluster has A
-pub middle_moved_by_1 : dag_broken (dag_with (coarse_square 0 0 ∷ coarse_square 16 4 ∷ fan_round (flat_point 5 4) ∷ fine_square 16 4 ∷ []))
+pub middle_moved_by_1 : dag_broken (dag_with
+    (coarse_square 0 0 ∷ coarse_square 16 4 ∷ fan_round (flat_point 5 4) ∷ fine_square 16 4 ∷ []))
     ≡ nowhere ∷ nowhere ∷ (0 ∷ []) ∷ []
-unfolding have_same_sums breaks_sums breaks_source is_near is_near_source breaks_corners distance same_point edges_of edge_count edge_sum
+unfolding have_same_sums breaks_sums breaks_source is_near is_near_source breaks_corners distance same_point edges_of
+    edge_count edge_sum
 middle_moved_by_1 = refl
 
 -- at (3, 4) it is 4 from A, as the error allows
-pub middle_moved_within : dag_broken (dag_with (coarse_square 0 0 ∷ coarse_square 16 4 ∷ fan_round (flat_point 3 4) ∷ fine_square 16 4 ∷ []))
+pub middle_moved_within : dag_broken (dag_with
+    (coarse_square 0 0 ∷ coarse_square 16 4 ∷ fan_round (flat_point 3 4) ∷ fine_square 16 4 ∷ []))
     ≡ nowhere ∷ nowhere ∷ nowhere ∷ []
-unfolding have_same_sums breaks_sums breaks_source is_near is_near_source breaks_corners distance same_point edges_of edge_count edge_sum
+unfolding have_same_sums breaks_sums breaks_source is_near is_near_source breaks_corners distance same_point edges_of
+    edge_count edge_sum
 middle_moved_within = refl

@@ -1,5 +1,8 @@
 -- Lists of numbers that grow by one: filters, sums and searches of a range.
-use Rattle.std.proofs.Common.{◌≡◌, ◌<◌, ◌+◌, ℕ, Bool, true, false, ◌&&◌, ◌||◌, cond, List, [], ◌∷◌, ◌++◌, get_or, filter, sum_by, refl, sym, ap, ◌∙◌, arith, zero-add}
+use Rattle.std.proofs.Common.{
+  ◌≡◌, ◌<◌, ◌+◌, ℕ, Bool, true, false, ◌&&◌, ◌||◌, cond, List, [], ◌∷◌, ◌++◌, get_or, filter, sum_by, refl, sym, ap,
+  ◌∙◌, arith, zero-add,
+}
 use Rattle.std.specs.List.{range_with_len, list_any}
 use Rattle.std.proofs.lemmas.List.{map-id}
 use Rattle.std.proofs.lemmas.List.Elements.{filter-append}
@@ -18,7 +21,8 @@ or_none true = refl
 or_none false = refl
 
 -- a search of one more number
-pub list_any-more : (test : ℕ → Bool) (n : ℕ) → list_any test (range_with_len 0 (n + 1)) ≡ (list_any test (range_with_len 0 n) || test n)
+pub list_any-more : (test : ℕ → Bool) (n : ℕ) →
+    list_any test (range_with_len 0 (n + 1)) ≡ (list_any test (range_with_len 0 n) || test n)
 list_any-more test n =
     ap (list_any test) (range_more n)
     ∙ (list_any-append test (range_with_len 0 n) (n ∷ [])
@@ -26,7 +30,8 @@ list_any-more test n =
 
 -- a sum over the numbers that pass a test, of one more number
 pub sum_of_filter-more : (weight : ℕ → ℕ) (test : ℕ → Bool) (n : ℕ) →
-    sum_by weight (filter test (range_with_len 0 (n + 1))) ≡ sum_by weight (filter test (range_with_len 0 n)) + cond (test n) (weight n) 0
+    sum_by weight (filter test (range_with_len 0 (n + 1))) ≡ sum_by weight (filter test (range_with_len 0 n)) + cond
+    (test n) (weight n) 0
 sum_of_filter-more weight test n =
     ap (λ xs. sum_by weight (filter test xs)) (range_more n)
     ∙ (ap (sum_by weight) (filter-append test (range_with_len 0 n) (n ∷ []))
@@ -38,7 +43,8 @@ sum_of_filter-more weight test n =
     of_one false = refl
 
 -- a search of what a filter leaves
-pub list_any-filter : {X : Type 0} (test keep : X → Bool) (xs : List X) → list_any test (filter keep xs) ≡ list_any (λ x. keep x && test x) xs
+pub list_any-filter : {X : Type 0} (test keep : X → Bool) (xs : List X) →
+    list_any test (filter keep xs) ≡ list_any (λ x. keep x && test x) xs
 list_any-filter {X} test keep [] = refl
 list_any-filter {X} test keep (x ∷ xs) =
     at (keep x) (filter keep xs) ∙ ap (λ rest. (keep x && test x) || rest) (list_any-filter test keep xs)

@@ -1,5 +1,8 @@
 -- Marked numbers: filters of a range, what is in them, and that they ascend.
-use Rattle.std.proofs.Common.{◌≡◌, ◌==◌, ◌<◌, ◌≤◌, ◌+◌, ℕ, zero, suc, Bool, true, false, ◌&&◌, cond, List, [], ◌∷◌, ◌++◌, length, get_or, filter, Result, Ok, Err, MatchResult, is_ok, ap, sym, ◌∙◌, refl, arith, subst, inl, inr, append-nil}
+use Rattle.std.proofs.Common.{
+  ◌≡◌, ◌==◌, ◌<◌, ◌≤◌, ◌+◌, ℕ, zero, suc, Bool, true, false, ◌&&◌, cond, List, [], ◌∷◌, ◌++◌, length, get_or, filter,
+  Result, Ok, Err, MatchResult, is_ok, ap, sym, ◌∙◌, refl, arith, subst, inl, inr, append-nil,
+}
 use Rattle.std.specs.List.{range_with_len}
 use Rattle.std.specs.List.Sorted.{IsBinarySearchResult, IsStrictlyIncreasing}
 use Rattle.std.specs.Ordering.{nat_cmp}
@@ -17,10 +20,12 @@ use Rattle.dag_core.proofs.ListSteps.{list_any-filter, range_any, range_found, r
 -- ---- filters of a range
 
 -- one more number
-pub filter_more : (f : ℕ → Bool) (n : ℕ) → filter f (range_with_len 0 (n + 1)) ≡ filter f (range_with_len 0 n) ++ cond (f n) (n ∷ []) []
+pub filter_more : (f : ℕ → Bool) (n : ℕ) →
+    filter f (range_with_len 0 (n + 1)) ≡ filter f (range_with_len 0 n) ++ cond (f n) (n ∷ []) []
 filter_more f n = ap (filter f) (range_more n) ∙ filter-append f (range_with_len 0 n) (n ∷ [])
 
-pub filter_same : (f g : ℕ → Bool) (n : ℕ) → ((k : ℕ) → k < n → f k ≡ g k) → filter f (range_with_len 0 n) ≡ filter g (range_with_len 0 n)
+pub filter_same : (f g : ℕ → Bool) (n : ℕ) → ((k : ℕ) → k < n → f k ≡ g k) →
+    filter f (range_with_len 0 n) ≡ filter g (range_with_len 0 n)
 filter_same f g zero same = refl
 filter_same f g (suc n) same =
     let e : suc n ≡ n + 1 = omega arith in
@@ -30,13 +35,15 @@ filter_same f g (suc n) same =
     ∙ sym (filter_more g n))))
 
 -- a loop's step, where the next number passes and where it doesn't
-pub filter_step : (f : ℕ → Bool) (n : ℕ) (xs : List ℕ) → xs ≡ filter f (range_with_len 0 n) → f n ≡ true → xs ++ n ∷ [] ≡ filter f (range_with_len 0 (n + 1))
+pub filter_step : (f : ℕ → Bool) (n : ℕ) (xs : List ℕ) → xs ≡ filter f (range_with_len 0 n) → f n ≡ true →
+    xs ++ n ∷ [] ≡ filter f (range_with_len 0 (n + 1))
 filter_step f n xs before passes =
     ap (λ ys. ys ++ n ∷ []) before
     ∙ (ap (λ b. filter f (range_with_len 0 n) ++ cond b (n ∷ []) []) (sym passes)
     ∙ sym (filter_more f n))
 
-pub filter_skip : (f : ℕ → Bool) (n : ℕ) (xs : List ℕ) → xs ≡ filter f (range_with_len 0 n) → f n ≡ false → xs ≡ filter f (range_with_len 0 (n + 1))
+pub filter_skip : (f : ℕ → Bool) (n : ℕ) (xs : List ℕ) → xs ≡ filter f (range_with_len 0 n) → f n ≡ false →
+    xs ≡ filter f (range_with_len 0 (n + 1))
 filter_skip f n xs before fails =
     before
     ∙ (sym (append-nil (filter f (range_with_len 0 n)))
@@ -75,27 +82,37 @@ filter_ascends f n = IsStrictlyIncreasing-filter f (range_with_len 0 n) (range_a
 -- ---- marks
 
 -- the marked numbers, where each mark is a function's value
-pub marked_is : (f : ℕ → Bool) (marks : List Bool) (n : ℕ) → length marks ≡ n → ((k : ℕ) → is_marked marks k ≡ f k) → marked_of marks ≡ filter f (range_with_len 0 n)
+pub marked_is : (f : ℕ → Bool) (marks : List Bool) (n : ℕ) → length marks ≡ n → ((k : ℕ) → is_marked marks k ≡ f k) →
+    marked_of marks ≡ filter f (range_with_len 0 n)
 marked_is f marks n count each =
-    ap (λ m. filter (is_marked marks) (range_with_len 0 m)) count ∙ filter_same (is_marked marks) f n (λ k below. each k)
+    ap (λ m. filter (is_marked marks) (range_with_len 0 m)) count ∙
+        filter_same (is_marked marks) f n (λ k below. each k)
 
 -- ---- a search of pages that ascend
 
-rising : (pages : List ℕ) → IsStrictlyIncreasing pages → (i j : ℕ) → i ≤ j → j < length pages → get_or pages i 0 ≤ get_or pages j 0
+rising : (pages : List ℕ) → IsStrictlyIncreasing pages → (i j : ℕ) → i ≤ j → j < length pages →
+    get_or pages i 0 ≤ get_or pages j 0
 rising pages ascend i j before below = elim (cases_lt i j) [
   | inl less ↦ let lt = AllPairs-from_increasing pages ascend i j 0 less below in omega arith
   | inr not_less ↦ let e : i ≡ j = omega arith in rw e (omega arith)
 ]
 
-pub has_page-searched : (pages : List ℕ) (page : ℕ) (r : Result ℕ ℕ) → IsStrictlyIncreasing pages → IsBinarySearchResult (λ y. nat_cmp y page) pages r → is_ok r ≡ has_page pages page
+pub has_page-searched : (pages : List ℕ) (page : ℕ) (r : Result ℕ ℕ) → IsStrictlyIncreasing pages →
+    IsBinarySearchResult (λ y. nat_cmp y page) pages r → is_ok r ≡ has_page pages page
 has_page-searched pages page r ascend search = told r (searched pages page r search (rising pages ascend))
   where
-    apart : (k i : ℕ) → k < length pages → ((k : ℕ) → k < i → get_or pages k 0 < page) → ((k : ℕ) → i ≤ k → k < length pages → page < get_or pages k 0) → (get_or pages k 0 == page) ≡ false
+    apart : (k i : ℕ) → k < length pages → ((k : ℕ) → k < i → get_or pages k 0 < page) →
+        ((k : ℕ) → i ≤ k → k < length pages → page < get_or pages k 0) → (get_or pages k 0 == page) ≡ false
     apart k i within below above = elim (cases_lt k i) [
       | inl lt ↦ let less = below k lt in grind (arith, nat_tests)
       | inr ge ↦ let more = above k ge within in grind (arith, nat_tests)
     ]
 
-    told : (r : Result ℕ ℕ) → MatchResult r (λ i. (i < length pages) × (get_or pages i 0 ≡ page)) (λ i. (i ≤ length pages) × ((k : ℕ) → k < i → get_or pages k 0 < page) × ((k : ℕ) → i ≤ k → k < length pages → page < get_or pages k 0)) → is_ok r ≡ has_page pages page
-    told (Ok i) found = sym (list_any_at (λ q. q == page) pages i 0 found.0 (let same = found.1 in grind (arith, nat_tests)))
-    told (Err i) gap = sym (list_any_none (λ q. q == page) pages (All-from_get_or (λ q. (q == page) ≡ false) pages 0 (λ k within. apart k i within gap.1 gap.2)))
+    told : (r : Result ℕ ℕ) → MatchResult r (λ i. (i < length pages) × (get_or pages i 0 ≡ page))
+        (λ i. (i ≤ length pages) × ((k : ℕ) → k < i → get_or pages k 0 < page) ×
+        ((k : ℕ) → i ≤ k → k < length pages → page < get_or pages k 0)) → is_ok r ≡ has_page pages page
+    told (Ok i) found =
+        sym (list_any_at (λ q. q == page) pages i 0 found.0 (let same = found.1 in grind (arith, nat_tests)))
+    told (Err i) gap =
+        sym (list_any_none (λ q. q == page) pages
+        (All-from_get_or (λ q. (q == page) ≡ false) pages 0 (λ k within. apart k i within gap.1 gap.2)))

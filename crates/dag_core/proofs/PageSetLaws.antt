@@ -29,7 +29,8 @@ below_all n p has =
     omega arith
 
 -- an upper is a page
-pub upper_page : (heads : Heads) (p q : ℕ) → IsInRange heads → AreMembersInTurn heads → is_upper heads p q ≡ true → q < heads.pages
+pub upper_page : (heads : Heads) (p q : ℕ) → IsInRange heads → AreMembersInTurn heads → is_upper heads p q ≡ true →
+    q < heads.pages
 upper_page heads p q range turn upper =
     let made = made_on heads p q upper in
     let page = cluster_page heads made.cluster range turn made.below in
@@ -37,7 +38,8 @@ upper_page heads p q range turn upper =
     omega arith
 
 -- the set of all pages is closed
-pub all_pages_closed : (heads : Heads) → IsInRange heads → AreMembersInTurn heads → IsClosed heads (range_with_len 0 heads.pages)
+pub all_pages_closed : (heads : Heads) → IsInRange heads → AreMembersInTurn heads →
+    IsClosed heads (range_with_len 0 heads.pages)
 all_pages_closed heads range turn =
     let sizes = sizes_of heads range in
     let roots = sizes.roots in

@@ -1,5 +1,8 @@
 -- Each path meets the cut once: up to some place the homes of its clusters are not open, and from there on they are.
-use Rattle.std.proofs.Common.{◌≡◌, ◌==◌, ◌<◌, ◌≤◌, ◌+◌, ◌-◌, ◌∙◌, ap, sym, refl, subst, filter, inl, inr, ℕ, zero, suc, Bool, true, false, not, ◌&&◌, List, length, slice_index, arith}
+use Rattle.std.proofs.Common.{
+  ◌≡◌, ◌==◌, ◌<◌, ◌≤◌, ◌+◌, ◌-◌, ◌∙◌, ap, sym, refl, subst, filter, inl, inr, ℕ, zero, suc, Bool, true, false, not,
+  ◌&&◌, List, length, slice_index, arith,
+}
 use Rattle.std.specs.List.{range_with_len, position_or_len}
 use Rattle.std.proofs.lemmas.Bool.{and_parts, and_from, cases_lt}
 use Rattle.std.proofs.lemmas.Bool.Decides.{nat_tests}

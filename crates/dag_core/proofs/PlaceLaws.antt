@@ -9,4 +9,5 @@ NoneBefore test place = (before : ℕ) → before < place → test before ≡ fa
 -- at no place below the end, and at none from there on
 pub none_at_all : (test : ℕ → Bool) (end : ℕ) → NoneBefore test end → ((place : ℕ) → end ≤ place → test place ≡ false) →
     (place : ℕ) → test place ≡ false
-none_at_all test end before after place = elim (cases_lt place end) [ inl below ↦ before place below | inr from ↦ after place from ]
+none_at_all test end before after place =
+    elim (cases_lt place end) [ inl below ↦ before place below | inr from ↦ after place from ]

@@ -2,7 +2,9 @@
 use Rattle.std.proofs.Common.{◌≡◌, ◌<◌, ◌≤◌, ℕ, length, IsTrue, Some, arith, subst}
 use Rattle.std.proofs.lemmas.Bool.Decides.{nat_tests}
 use Rattle.std.proofs.lemmas.List.Elements.{All-get_or}
-use Rattle.geom_core.specs.declared.limits.TheConstants.{CLUSTERS_PER_GROUP, MAX_CLUSTERS, MAX_GROUPS, MAX_PAGES, TRIANGLES_PER_CLUSTER}
+use Rattle.geom_core.specs.declared.limits.TheConstants.{
+  CLUSTERS_PER_GROUP, MAX_CLUSTERS, MAX_GROUPS, MAX_PAGES, TRIANGLES_PER_CLUSTER,
+}
 use Rattle.dag_core.specs.declared.groups.Group.{Group}
 use Rattle.dag_core.specs.declared.heads.Heads.{Heads}
 use Rattle.dag_core.specs.Members.{no_group, no_cluster, group_at, cluster_at}
@@ -51,19 +53,27 @@ bounds_from heads group range =
       count = grind (arith, nat_tests);
     }
 
-pub group_bounds : (heads : Heads) (g : ℕ) → IsInRange heads → g < length heads.groups → GroupBounds heads (group_at heads g)
+pub group_bounds : (heads : Heads) (g : ℕ) → IsInRange heads → g < length heads.groups →
+    GroupBounds heads (group_at heads g)
 group_bounds heads g range below =
-    bounds_from heads (group_at heads g) (All-get_or (IsGroupInRange (counts_of heads)) heads.groups g no_group below range.groups)
+    bounds_from heads (group_at heads g) (All-get_or
+        (IsGroupInRange (counts_of heads)) heads.groups g no_group below range.groups)
 
-cluster_range : (heads : Heads) (c : ℕ) → IsInRange heads → c < length heads.clusters → IsClusterInRange (counts_of heads) (cluster_at heads c)
-cluster_range heads c range below = All-get_or (IsClusterInRange (counts_of heads)) heads.clusters c no_cluster below range.clusters
+cluster_range : (heads : Heads) (c : ℕ) → IsInRange heads → c < length heads.clusters →
+    IsClusterInRange (counts_of heads) (cluster_at heads c)
+cluster_range heads c range below =
+    All-get_or (IsClusterInRange (counts_of heads)) heads.clusters c no_cluster below range.clusters
 
-pub tris_limit : (heads : Heads) (c : ℕ) → IsInRange heads → c < length heads.clusters → (cluster_at heads c).tris ≤ TRIANGLES_PER_CLUSTER
-tris_limit heads c range below = count_to TRIANGLES_PER_CLUSTER (cluster_at heads c).tris (cluster_range heads c range below).size
+pub tris_limit : (heads : Heads) (c : ℕ) → IsInRange heads → c < length heads.clusters →
+    (cluster_at heads c).tris ≤ TRIANGLES_PER_CLUSTER
+tris_limit heads c range below =
+    count_to TRIANGLES_PER_CLUSTER (cluster_at heads c).tris (cluster_range heads c range below).size
 
 maker_range : (heads : Heads) (m : ℕ) → IsTrue (is_group_or_none (counts_of heads) (Some m)) → m < length heads.groups
 maker_range heads m is = grind (arith, nat_tests)
 
-pub maker_below : (heads : Heads) (c m : ℕ) → IsInRange heads → c < length heads.clusters → (cluster_at heads c).made ≡ Some m → m < length heads.groups
+pub maker_below : (heads : Heads) (c m : ℕ) → IsInRange heads → c < length heads.clusters →
+    (cluster_at heads c).made ≡ Some m → m < length heads.groups
 maker_below heads c m range below made =
-    maker_range heads m (subst (λ maker. IsTrue (is_group_or_none (counts_of heads) maker)) made (cluster_range heads c range below).maker)
+    maker_range heads m (subst (λ maker. IsTrue (is_group_or_none (counts_of heads) maker)) made
+        (cluster_range heads c range below).maker)

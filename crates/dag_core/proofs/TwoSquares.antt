@@ -45,14 +45,20 @@ coarse_square x source = sourced (corner_b x) (corner_c x) (corner_a x) (source 
 
 -- the group of both coarse squares, which nothing replaces
 abbrev pub whole : Group
-whole = record { error = 0; terminal = true; cube = record { lo = corner_a 0; hi = corner_c 16 }; page = 0; first = 0; count = 2 }
+whole =
+    record { error = 0; terminal = true; cube = record { lo = corner_a 0; hi = corner_c 16 }; page = 0; first =
+    0; count = 2 }
 
 -- the groups of the fine squares
 abbrev pub left : Group
-left = record { error = 4; terminal = false; cube = record { lo = corner_a 0; hi = corner_c 0 }; page = 1; first = 2; count = 1 }
+left =
+    record { error = 4; terminal = false; cube = record { lo = corner_a 0; hi = corner_c 0 }; page = 1; first =
+    2; count = 1 }
 
 abbrev pub right : Group
-right = record { error = 4; terminal = false; cube = record { lo = corner_a 16; hi = corner_c 16 }; page = 2; first = 3; count = 1 }
+right =
+    record { error = 4; terminal = false; cube = record { lo = corner_a 16; hi = corner_c 16 }; page = 2; first =
+    3; count = 1 }
 
 abbrev pub made_of_two : ℕ → ClusterHead
 made_of_two maker = record { made = Some maker; tris = 2 }
@@ -67,7 +73,8 @@ abbrev pub two_squares_clusters : List ClusterHead
 two_squares_clusters = made_of_two 1 ∷ made_of_two 2 ∷ leaf_of_four ∷ leaf_of_four ∷ []
 
 abbrev pub two_squares_heads : Heads
-two_squares_heads = record { groups = two_squares_groups; clusters = two_squares_clusters; pages = 3; roots = 1; sources = 8 }
+two_squares_heads =
+    record { groups = two_squares_groups; clusters = two_squares_clusters; pages = 3; roots = 1; sources = 8 }
 
 abbrev pub two_squares_tris : List (List Tagged)
 two_squares_tris = coarse_square 0 0 ∷ coarse_square 16 4 ∷ fine_square 0 0 ∷ fine_square 16 4 ∷ []

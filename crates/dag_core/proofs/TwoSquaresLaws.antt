@@ -13,8 +13,14 @@ use Rattle.dag_core.specs.declared.dags.Dag.{Dag}
 use Rattle.dag_core.specs.Members.{home}
 use Rattle.dag_core.specs.Pages.{has_terminal_on, is_upper, tris_on}
 use Rattle.dag_core.specs.Ranges.{IsInRange}
-use Rattle.dag_core.specs.Rules.{Checked, breaks_bound, breaks_maker, breaks_members, breaks_page, breaks_terminal, has_made, is_outgrown, members_before}
-use Rattle.dag_core.specs.TriangleRules.{IsLaidOut, IsSourcedTriangle, Sound, breaks_corners, breaks_source, breaks_sums, dag_breaks, have_same_sums, is_near, is_near_source}
+use Rattle.dag_core.specs.Rules.{
+  Checked, breaks_bound, breaks_maker, breaks_members, breaks_page, breaks_terminal, has_made, is_outgrown,
+  members_before,
+}
+use Rattle.dag_core.specs.TriangleRules.{
+  IsLaidOut, IsSourcedTriangle, Sound, breaks_corners, breaks_source, breaks_sums, dag_breaks, have_same_sums, is_near,
+  is_near_source,
+}
 use Rattle.dag_core.specs.Internal.RangeTests.{are_counts_in_range, is_cluster_in_range, is_group_in_range}
 use Rattle.dag_core.proofs.ListSteps.{range_any}
 use Rattle.dag_core.proofs.PlaceLaws.{NoneBefore, none_at_all}
@@ -31,7 +37,8 @@ none_before test n none place below = at (test place) refl
     at true passes = absurd (false≢true (sym none ∙ range_any test n place below passes))
     at false fails = fails
 
-pub none_from_search : (test : ℕ → Bool) (n : ℕ) → list_any test (range_with_len 0 n) ≡ false → ((place : ℕ) → n ≤ place → test place ≡ false) → (place : ℕ) → test place ≡ false
+pub none_from_search : (test : ℕ → Bool) (n : ℕ) → list_any test (range_with_len 0 n) ≡ false →
+    ((place : ℕ) → n ≤ place → test place ≡ false) → (place : ℕ) → test place ≡ false
 none_from_search test n none after = none_at_all test n (none_before test n none) after
 
 pick : (b x y : Bool) → x ≡ false → y ≡ false → cond b x y ≡ false
@@ -39,10 +46,13 @@ pick true x y first second = first
 pick false x y first second = second
 
 -- heads that keep each of the five rules
-pub checked_from : (heads : Heads) → ((g : ℕ) → breaks_members heads g ≡ false) → ((c : ℕ) → breaks_maker heads c ≡ false) →
-    ((g : ℕ) → breaks_terminal heads g ≡ false) → ((c : ℕ) → breaks_bound heads c ≡ false) → ((p : ℕ) → breaks_page heads p ≡ false) → Checked heads
+pub checked_from : (heads : Heads) → ((g : ℕ) → breaks_members heads g ≡ false) →
+    ((c : ℕ) → breaks_maker heads c ≡ false) →
+    ((g : ℕ) → breaks_terminal heads g ≡ false) → ((c : ℕ) → breaks_bound heads c ≡ false) →
+    ((p : ℕ) → breaks_page heads p ≡ false) → Checked heads
 checked_from heads members makers terminals bounds pages = λ rule index.
-    pick _ _ _ (members index) (pick _ _ _ (makers index) (pick _ _ _ (terminals index) (pick _ _ _ (bounds index) (pick _ _ _ (pages index) refl))))
+    pick _ _ _ (members index) (pick _ _ _ (makers index)
+        (pick _ _ _ (terminals index) (pick _ _ _ (bounds index) (pick _ _ _ (pages index) refl))))
 
 -- a DAG that keeps each of the three rules of triangles
 pub dag_rules_from : (dag : Dag) → ((g : ℕ) → breaks_sums dag g ≡ false) → ((k : ℕ) → breaks_source dag k ≡ false) →
@@ -60,12 +70,15 @@ unfolding are_counts_in_range is_group_in_range is_cluster_in_range is_under
 two_squares_in_range = range_from two_squares_heads (record { counts = refl; groups = refl; clusters = refl })
 
 pub two_squares_checked : Checked two_squares_heads
-unfolding home tris_on has_terminal_on is_upper members_before breaks_members breaks_maker has_made breaks_terminal is_outgrown breaks_bound breaks_page is_under holds_box
+unfolding home tris_on has_terminal_on is_upper members_before breaks_members breaks_maker has_made breaks_terminal
+    is_outgrown breaks_bound breaks_page is_under holds_box
 two_squares_checked =
     checked_from two_squares_heads
-    (none_from_search (breaks_members two_squares_heads) 4 refl (λ place from. members_beyond two_squares_heads place (omega arith)))
+    (none_from_search (breaks_members two_squares_heads) 4 refl
+        (λ place from. members_beyond two_squares_heads place (omega arith)))
     (none_from_search (breaks_maker two_squares_heads) 4 refl (λ place from. maker_beyond two_squares_heads place from))
-    (none_from_search (breaks_terminal two_squares_heads) 3 refl (λ place from. terminal_beyond two_squares_heads place from))
+    (none_from_search (breaks_terminal two_squares_heads) 3 refl
+        (λ place from. terminal_beyond two_squares_heads place from))
     (none_from_search (breaks_bound two_squares_heads) 4 refl (λ place from. bound_beyond two_squares_heads place from))
     (none_from_search (breaks_page two_squares_heads) 3 refl (λ place from. page_beyond two_squares_heads place from))
 
@@ -83,12 +96,16 @@ two_squares_laid_out = record {
   range = two_squares_in_range;
   rules = two_squares_checked;
   counts = refl;
-  triangles = all_from (All (IsSourcedTriangle 8)) (list_all (λ (t : Tagged). is_grid_triangle t.tri && nat_lt t.source 8)) two_squares_tris
-      (λ tris all. all_from (IsSourcedTriangle 8) (λ (t : Tagged). is_grid_triangle t.tri && nat_lt t.source 8) tris sourced_from all) refl;
+  triangles =
+      all_from (All (IsSourcedTriangle 8)) (list_all (λ (t : Tagged). is_grid_triangle t.tri && nat_lt t.source 8))
+      two_squares_tris
+      (λ tris all. all_from (IsSourcedTriangle 8)
+          (λ (t : Tagged). is_grid_triangle t.tri && nat_lt t.source 8) tris sourced_from all) refl;
 }
 
 pub two_squares_sound : Sound two_squares
-unfolding have_same_sums breaks_sums breaks_source is_near is_near_source breaks_corners distance same_point edges_of edge_count edge_sum
+unfolding have_same_sums breaks_sums breaks_source is_near is_near_source breaks_corners distance same_point edges_of
+    edge_count edge_sum
 two_squares_sound = record {
   laid_out = two_squares_laid_out;
   rules = dag_rules_from two_squares

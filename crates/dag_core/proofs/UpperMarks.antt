@@ -7,7 +7,8 @@ use Rattle.dag_core.specs.Pages.{is_maker_on, is_upper, page_of_cluster}
 
 -- a cluster by which page q is an upper of p
 abbrev pub is_upper_by : Heads → ℕ → ℕ → ℕ → Bool
-is_upper_by heads p q c = not (q == p) && (is_maker_on heads p (cluster_at heads c).made && page_of_cluster heads c == q)
+is_upper_by heads p q c =
+    not (q == p) && (is_maker_on heads p (cluster_at heads c).made && page_of_cluster heads c == q)
 
 -- what doesn't change from cluster to cluster is asked once
 any_both : (b : Bool) (test : ℕ → Bool) (xs : List ℕ) → list_any (λ k. b && test k) xs ≡ (b && list_any test xs)
@@ -15,6 +16,9 @@ any_both true test xs = refl
 any_both false test [] = refl
 any_both false test (x ∷ xs) = any_both false test xs
 
-pub is_upper-by : (heads : Heads) (p q : ℕ) → list_any (is_upper_by heads p q) (range_with_len 0 (length heads.clusters)) ≡ is_upper heads p q
+pub is_upper-by : (heads : Heads) (p q : ℕ) →
+    list_any (is_upper_by heads p q) (range_with_len 0 (length heads.clusters)) ≡ is_upper heads p q
 unfolding is_upper
-is_upper-by heads p q = any_both (not (q == p)) (λ c. is_maker_on heads p (cluster_at heads c).made && page_of_cluster heads c == q) (range_with_len 0 (length heads.clusters))
+is_upper-by heads p q =
+    any_both (not (q == p)) (λ c. is_maker_on heads p (cluster_at heads c).made && page_of_cluster heads c == q)
+    (range_with_len 0 (length heads.clusters))

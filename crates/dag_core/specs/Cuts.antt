@@ -1,5 +1,8 @@
 -- The cut of a DAG: the clusters that are drawn through a lens while these pages are resident.
-use Rattle.std.specs.Prelude.{◌≡◌, Bool, false, not, ◌&&◌, ◌||◌, ◌==◌, ℕ, ◌+◌, ◌<◌, List, length, map, filter, flat_map, Option, Some, None, IsTrue, slice_index, slice_index_or}
+use Rattle.std.specs.Prelude.{
+  ◌≡◌, Bool, false, not, ◌&&◌, ◌||◌, ◌==◌, ℕ, ◌+◌, ◌<◌, List, length, map, filter, flat_map, Option, Some, None, IsTrue,
+  slice_index, slice_index_or,
+}
 use Rattle.std.specs.List.{enumerate_from, list_any}
 use Rattle.geom_core.specs.declared.triangles.Tagged.{Tagged}
 use Rattle.geom_core.specs.declared.triangles.Tri.{Tri}
@@ -16,7 +19,8 @@ use Rattle.dag_core.specs.Triangles.{source_of}
 -- a group is open, so that its members may be drawn: its page is resident, and it is terminal or coarse
 unfoldable pub is_open : Heads → Lens → List ℕ → ℕ → Bool
 is_open heads lens resident g =
-    has_page resident (group_at heads g).page && ((group_at heads g).terminal || is_coarse_group lens (group_at heads g))
+    has_page resident (group_at heads g).page &&
+        ((group_at heads g).terminal || is_coarse_group lens (group_at heads g))
 
 -- the maker is an open group
 abbrev pub is_maker_open : Heads → Lens → List ℕ → Option ℕ → Bool
@@ -62,7 +66,8 @@ pub record MeetsOnce (cut path : List ℕ) : Type 0 where
   pub there : IsTrue (has_cluster cut (slice_index path place))
   pub only : (k : ℕ) → k < length path → IsTrue (has_cluster cut (slice_index path k)) → k ≡ place
 
--- each corner of the triangle is at most this far from the same corner of its source triangle; `other` stands for a source
+-- each corner of the triangle is at most this far from the same corner of its source triangle; `other` stands for a
+-- source
 -- triangle that isn't there
 abbrev pub IsNearSource : Dag → ℕ → Tri → Tagged → Type 0
 IsNearSource dag most other t = IsTrue (is_near most t.tri (slice_index_or (source_of dag) t.source other))

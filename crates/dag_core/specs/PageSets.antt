@@ -44,7 +44,8 @@ abbrev pub is_above : ℕ → Heads → ℕ → ℕ → Bool
 is_above zero heads p q = false
 is_above (suc steps) heads p q = list_any (λ u. u == q || is_above steps heads u q) (uppers_of heads p)
 
--- the pages that a page depends on, directly or by others, ascending: those that it reaches by at most as many steps as there
+-- the pages that a page depends on, directly or by others, ascending: those that it reaches by at most as many steps as
+-- there
 -- are pages
 abbrev pub above_of : Heads → ℕ → List ℕ
 above_of heads p = filter (is_above heads.pages heads p) (range_with_len 0 heads.pages)

@@ -3,7 +3,11 @@ use Rattle.std.proofs.Common.{◌≡◌, ℕ, List, [], ◌∷◌, ◌++◌, Som
 use Rattle.std.specs.Fmt.{digits}
 use Rattle.std.specs.List.{join_with_byte}
 use Rattle.hex.specs.Hex.{decode_pairs}
-use Rattle.journal.specs.Grammar.{number_of, digest_of, single_number_of, frame_and_pages_of, pages_until_missing_of, settle_of, take_of, install_of, fail_of, spoilt_digest_of, spoilt_grammar_of, spoilt_short_of, spoilt_of, spoil_of, event_without_list_of, event_of, entry_of, layout_of, with_upper, with_entry, with_line, with_all_uppers}
+use Rattle.journal.specs.Grammar.{
+  number_of, digest_of, single_number_of, frame_and_pages_of, pages_until_missing_of, settle_of, take_of, install_of,
+  fail_of, spoilt_digest_of, spoilt_grammar_of, spoilt_short_of, spoilt_of, spoil_of, event_without_list_of, event_of,
+  entry_of, layout_of, with_upper, with_entry, with_line, with_all_uppers,
+}
 use Rattle.geode_tool.specs.declared.commands.Command.TheVariants.{Audit}
 use Rattle.geode_tool.specs.declared.faults.Fault.TheVariants.{BadJournal, Illegal}
 use Rattle.geode_tool.specs.Audit.{audit_answer, verdict_text}
@@ -24,7 +28,9 @@ command_words-more = refl
 
 -- what the reading of a literal unfolds
 unfoldable reading : ℕ
-unfolding audit_answer number_of digest_of single_number_of frame_and_pages_of pages_until_missing_of settle_of take_of install_of fail_of spoilt_digest_of spoilt_grammar_of spoilt_short_of spoilt_of spoil_of event_without_list_of event_of entry_of layout_of with_upper with_entry with_line with_all_uppers decode_pairs
+unfolding audit_answer number_of digest_of single_number_of frame_and_pages_of pages_until_missing_of settle_of take_of
+    install_of fail_of spoilt_digest_of spoilt_grammar_of spoilt_short_of spoilt_of spoil_of event_without_list_of
+    event_of entry_of layout_of with_upper with_entry with_line with_all_uppers decode_pairs
 reading = 0
 
 -- the lines, each ended by a line feed
@@ -66,11 +72,13 @@ unfolding reading
 audit_answer-zero_first = refl
 
 -- comments are no entries, and count as lines
-pub audit_answer-report : audit_answer (text_of (codes "# frame 0" ∷ codes "layout 1 1 1" ∷ codes "#" ∷ codes "0 stop" ∷ [])) ≡ Ok 1
+pub audit_answer-report : audit_answer (text_of
+    (codes "# frame 0" ∷ codes "layout 1 1 1" ∷ codes "#" ∷ codes "0 stop" ∷ [])) ≡ Ok 1
 unfolding reading
 audit_answer-report = refl
 
-pub audit_answer-report_line : audit_answer (text_of (codes "# frame 0" ∷ codes "layout 1 1 1" ∷ codes "#" ∷ codes "stop" ∷ [])) ≡ Err (BadJournal 4)
+pub audit_answer-report_line : audit_answer
+    (text_of (codes "# frame 0" ∷ codes "layout 1 1 1" ∷ codes "#" ∷ codes "stop" ∷ [])) ≡ Err (BadJournal 4)
 unfolding reading
 audit_answer-report_line = refl
 
@@ -79,7 +87,8 @@ abbrev two : List (List ℕ) → List ℕ
 two entries = text_of (codes "layout 2 1 2" ∷ entries)
 
 -- a frame that ended, another maker, a second stop, a failed load whose count of faults didn't rise
-pub audit_answer-pin_again : audit_answer (two (codes "0 pin 0" ∷ codes "0 unpin 0" ∷ codes "0 pin 0" ∷ [])) ≡ Err (Illegal 2)
+pub audit_answer-pin_again : audit_answer (two (codes "0 pin 0" ∷ codes "0 unpin 0" ∷ codes "0 pin 0" ∷ [])) ≡ Err
+    (Illegal 2)
 unfolding reading
 audit_answer-pin_again = refl
 
@@ -91,12 +100,15 @@ pub audit_answer-stop_again : audit_answer (two (codes "0 stop" ∷ codes "0 sto
 unfolding reading
 audit_answer-stop_again = refl
 
-pub audit_answer-fail_unraised : audit_answer (two (codes "0 pin 0" ∷ codes "0 settle 0 pages 0 missing 1" ∷ codes "0 take 0 1 -" ∷ codes "0 fail 1 3 3" ∷ [])) ≡ Err (Illegal 3)
+pub audit_answer-fail_unraised : audit_answer
+    (two (codes "0 pin 0" ∷ codes "0 settle 0 pages 0 missing 1" ∷ codes "0 take 0 1 -" ∷ codes "0 fail 1 3 3" ∷ [])) ≡
+    Err (Illegal 3)
 unfolding reading
 audit_answer-fail_unraised = refl
 
 -- a line outside the grammar counts before an entry that isn't allowed
-pub audit_answer-line_first : audit_answer (two (codes "0 stop" ∷ codes "0 stop" ∷ codes "stop" ∷ [])) ≡ Err (BadJournal 4)
+pub audit_answer-line_first : audit_answer (two (codes "0 stop" ∷ codes "0 stop" ∷ codes "stop" ∷ [])) ≡ Err
+    (BadJournal 4)
 unfolding reading
 audit_answer-line_first = refl
 

@@ -1,5 +1,8 @@
 -- What a DAG that was built, or a fault before it, says of the promise of `build`.
-use Rattle.std.proofs.Common.{◌≡◌, ◌==◌, ◌∙◌, ◌≤◌, ℕ, List, Bool, true, false, Option, Some, None, Result, Ok, Err, pos, inl, inr, ap, sym, subst, refl, cond}
+use Rattle.std.proofs.Common.{
+  ◌≡◌, ◌==◌, ◌∙◌, ◌≤◌, ℕ, List, Bool, true, false, Option, Some, None, Result, Ok, Err, pos, inl, inr, ap, sym, subst,
+  refl, cond,
+}
 use Rattle.std.specs.Prelude.{IsErr, IfErr}
 use Rattle.std.specs.Result.{IsErrAnd}
 use Rattle.geom_core.specs.declared.limits.TheConstants.{STEPS_PER_UNIT}
@@ -50,12 +53,15 @@ no_rule false true c x y z sums source corner = source
 no_rule false false true x y z sums source corner = corner
 no_rule false false false x y z sums source corner = refl
 
-all_rules : (tris : List Tri) (dag : Dag) → AreGridTriangles tris → IsBuilt tris dag → (rule index : ℕ) → dag_breaks rule dag index ≡ false
+all_rules : (tris : List Tri) (dag : Dag) → AreGridTriangles tris → IsBuilt tris dag → (rule index : ℕ) →
+    dag_breaks rule dag index ≡ false
 all_rules tris dag mesh built rule index =
-    no_rule (rule == 6) (rule == 7) (rule == 8) (breaks_sums dag index) (breaks_source dag index) (breaks_corners dag index)
+    no_rule (rule == 6) (rule == 7) (rule == 8) (breaks_sums dag index) (breaks_source dag index)
+        (breaks_corners dag index)
     (edge_sums tris dag index mesh built) (each_source tris dag index mesh built) (corners tris dag index mesh built)
 
-pub built_from : (left : Option (List ℕ)) (tris : List Tri) (dag laid : Dag) → Listed STEPS_PER_UNIT left tris → AreGridTriangles tris →
+pub built_from : (left : Option (List ℕ)) (tris : List Tri) (dag laid : Dag) → Listed STEPS_PER_UNIT left tris →
+    AreGridTriangles tris →
     IsBuilt tris dag → laid ≡ pages.laid_out dag → IsBuiltFrom left laid
 built_from left tris dag laid listed mesh built on_pages =
     subst (IsBuiltFrom left) (sym on_pages) (record {
@@ -100,26 +106,33 @@ all_as_build (Ok found) left new_left faults new_faults stops = tt
 all_as_build (Err fault) left new_left faults new_faults stops = as_build left new_left faults new_faults fault stops
 
 -- a text that gave no mesh
-pub mesh_refused : {T : Type 0} (r : Result T Fault) (left new_left : Option (List ℕ)) (faults new_faults : ℕ) (why : ObjFault) →
+pub mesh_refused : {T : Type 0} (r : Result T Fault) (left new_left : Option (List ℕ)) (faults new_faults : ℕ)
+    (why : ObjFault) →
     IsErr r × IsErrAnd r (λ e. e ≡ fault_of_obj why) → Refused STEPS_PER_UNIT left faults new_faults why →
     ReadsUpTo STEPS_PER_UNIT left new_left why →
     IfErr r (StopsUnwritten Build (inputs_of left) (inputs_of new_left) faults new_faults)
 mesh_refused r left new_left faults new_faults why becomes refused reads =
-    all_as_build r left new_left faults new_faults (obj_refused r any_request left new_left faults new_faults why becomes refused reads)
+    all_as_build r left new_left faults new_faults
+        (obj_refused r any_request left new_left faults new_faults why becomes refused reads)
 
 -- no memory for the DAG
 pub dag_refused : {T : Type 0} (r : Result T Fault) (left new_left : Option (List ℕ)) (faults new_faults : ℕ) →
-    IsErr r × IsErrAnd r (λ e. e ≡ Memory) → IfErr r (StopsUnwritten Build (inputs_of left) (inputs_of new_left) faults new_faults)
+    IsErr r × IsErrAnd r (λ e. e ≡ Memory) →
+    IfErr r (StopsUnwritten Build (inputs_of left) (inputs_of new_left) faults new_faults)
 dag_refused r left new_left faults new_faults becomes =
-    all_as_build r left new_left faults new_faults (memory_refused r any_request left new_left faults new_faults becomes)
+    all_as_build r left new_left faults new_faults
+        (memory_refused r any_request left new_left faults new_faults becomes)
 
 -- ---- the file
 
-pub file_made : (left new_left : Option (List ℕ)) (faults new_faults : ℕ) (laid : Dag) (counts : Counts) → IsBuiltFrom left laid →
+pub file_made : (left new_left : Option (List ℕ)) (faults new_faults : ℕ) (laid : Dag) (counts : Counts) →
+    IsBuiltFrom left laid →
     counts ≡ counts_of laid.heads → ReadToEnd left new_left → new_faults ≡ faults →
     IsMade Build left new_left faults new_faults (Built counts) (file_bytes laid)
 file_made left new_left faults new_faults laid counts built counted ended no_fault = record {
-  does = record { counts = counts; told = refl; file = record { laid = laid; built = built; file = refl; counted = counted } };
+  does =
+      record { counts = counts; told = refl; file =
+      record { laid = laid; built = built; file = refl; counted = counted } };
   accepted = accepted_built left counts built.tris built.listed;
   input_read = ended;
   reads = record { reading = λ why e. absurd (write-reads why e); writing = λ e. ended };
@@ -135,19 +148,25 @@ file_made left new_left faults new_faults laid counts built counted ended no_fau
 
 -- ---- a file that was not written whole
 
-pub file_refused : {K : Type 0} (written : K → Option (List ℕ)) (flushed : K → Bool) (count : K → ℕ) (left new_left : Option (List ℕ))
+pub file_refused : {K : Type 0} (written : K → Option (List ℕ)) (flushed : K → Bool) (count : K → ℕ)
+    (left new_left : Option (List ℕ))
     (faults new_faults : ℕ) (old new : K) (r : Result Done Fault) (why : PageWrite) (counts : Counts) (text : List ℕ) →
-    IsErr r × IsErrAnd r (λ e. e ≡ fault_of_pages why) → IsMade Build left new_left faults new_faults (Built counts) text →
-    (why ≡ writes.Write → Rose (count old) (count new)) → (why ≡ writes.Write → AppendsPrefix (written old) (written new) text) →
+    IsErr r × IsErrAnd r (λ e. e ≡ fault_of_pages why) →
+    IsMade Build left new_left faults new_faults (Built counts) text →
+    (why ≡ writes.Write → Rose (count old) (count new)) →
+    (why ≡ writes.Write → AppendsPrefix (written old) (written new) text) →
     (why ≡ writes.Memory → new ≡ old) → faults ≤ new_faults →
     Holds Build (streams left faults (written old) (flushed old) (count old) old)
     (streams new_left new_faults (written new) (flushed new) (count new) new) r
-file_refused written flushed count left new_left faults new_faults old new r writes.Memory counts text becomes made rose prefix same le =
+file_refused written flushed count left new_left faults new_faults old new r writes.Memory counts text becomes made rose
+    prefix same le =
     subst (λ k. Holds Build (streams left faults (written old) (flushed old) (count old) old)
     (streams new_left new_faults (written k) (flushed k) (count k) k) r) (sym (same refl))
     (promise-refused Build left new_left faults new_faults (written old) (flushed old) (count old) old r Memory becomes
     (dag_refused {T = Done} (Err Memory) left new_left faults new_faults (refl, refl)) le)
-file_refused written flushed count left new_left faults new_faults old new r writes.Write counts text becomes made rose prefix same le =
+file_refused written flushed count left new_left faults new_faults old new r writes.Write counts text becomes made rose
+    prefix same le =
     let part = prefix refl in
-    promise-unwritten Build left new_left faults new_faults (written old) (written new) (flushed old) (flushed new) (count old) (count new)
+    promise-unwritten Build left new_left faults new_faults (written old) (written new) (flushed old) (flushed new)
+        (count old) (count new)
     old new r WriteFault (Built counts) text becomes refl made (rose refl) (part.count, part.within, part.appended)

@@ -8,16 +8,19 @@ pub command_words-audit : (words : List (List ℕ)) → is_audit words ≡ true 
 unfolding command_words
 command_words-audit words e = rw e
 
-pub command_words-build : (words : List (List ℕ)) → is_audit words ≡ false → is_build words ≡ true → command_words words ≡ Some Build
+pub command_words-build : (words : List (List ℕ)) → is_audit words ≡ false → is_build words ≡ true →
+    command_words words ≡ Some Build
 unfolding command_words
 command_words-build words e b = rw (e, b)
 
-pub command_words-make : (words : List (List ℕ)) (request : BoxRequest) → is_audit words ≡ false → is_build words ≡ false →
+pub command_words-make : (words : List (List ℕ)) (request : BoxRequest) → is_audit words ≡ false →
+    is_build words ≡ false →
     make_words words ≡ Some request → command_words words ≡ Some (Make request)
 unfolding command_words
 command_words-make words request e b made = rw (e, b, made)
 
-pub command_words-other : (words : List (List ℕ)) → is_audit words ≡ false → is_build words ≡ false → make_words words ≡ None →
+pub command_words-other : (words : List (List ℕ)) → is_audit words ≡ false → is_build words ≡ false →
+    make_words words ≡ None →
     command_words words ≡ option_map Draw (draw_words words)
 unfolding command_words
 command_words-other words e b none = rw (e, b, none)

@@ -23,7 +23,8 @@ use Rattle.geode_tool.specs.Internal.Unwritten.{StopsUnwritten}
 use Rattle.geode_tool.specs.Verdicts as verdicts
 use Rattle.geode_tool.proofs.Promise.{accepted-answers, outside-answers, refused-answers, IsMade}
 
-pub mesh_answer-from : (text : List ℕ) (found : Result (List Tri) ObjFault) → mesh STEPS_PER_UNIT text ≡ found → mesh_answer text ≡ tris_or_fault found
+pub mesh_answer-from : (text : List ℕ) (found : Result (List Tri) ObjFault) → mesh STEPS_PER_UNIT text ≡ found →
+    mesh_answer text ≡ tris_or_fault found
 unfolding mesh_answer
 mesh_answer-from text found e = ap tris_or_fault e
 
@@ -74,18 +75,23 @@ no_write obj.Empty e = cc
 no_write obj.Read e = cc
 no_write obj.Memory e = cc
 
-obj-reads : (left new_left : Option (List ℕ)) (why : ObjFault) → ReadsUpTo STEPS_PER_UNIT left new_left why → DrawReadsUpTo left new_left (fault_of_obj why)
+obj-reads : (left new_left : Option (List ℕ)) (why : ObjFault) → ReadsUpTo STEPS_PER_UNIT left new_left why →
+    DrawReadsUpTo left new_left (fault_of_obj why)
 obj-reads left new_left why reads = record {
   reading = λ other e. subst (λ (w : ObjFault). ReadsUpTo STEPS_PER_UNIT left new_left w) (obj-same why other e) reads;
   writing = λ e. absurd (no_write why e);
 }
 
 -- a fault of the text is its verdict
-known : (request : DrawRequest) (left : Option (List ℕ)) (why : ObjFault) → Answers STEPS_PER_UNIT left (Err why) → verdicts.Answers IsOutside (verdict_of (Draw request) (inputs_of left)) (Err (fault_of_obj why))
+known : (request : DrawRequest) (left : Option (List ℕ)) (why : ObjFault) → Answers STEPS_PER_UNIT left (Err why) →
+    verdicts.Answers IsOutside (verdict_of (Draw request) (inputs_of left)) (Err (fault_of_obj why))
 known request None why answers = tt
-known request (Some text) why answers = refused-answers (mesh_answer text) (fault_of_obj why) (mesh_answer-from text (Err why) answers)
+known request (Some text) why answers =
+    refused-answers (mesh_answer text) (fault_of_obj why) (mesh_answer-from text (Err why) answers)
 
-pub obj-stops : (request : DrawRequest) (left new_left : Option (List ℕ)) (faults new_faults : ℕ) (why : ObjFault) → Refused STEPS_PER_UNIT left faults new_faults why → ReadsUpTo STEPS_PER_UNIT left new_left why → StopsUnwritten (Draw request) (inputs_of left) (inputs_of new_left) faults new_faults (fault_of_obj why)
+pub obj-stops : (request : DrawRequest) (left new_left : Option (List ℕ)) (faults new_faults : ℕ) (why : ObjFault) →
+    Refused STEPS_PER_UNIT left faults new_faults why → ReadsUpTo STEPS_PER_UNIT left new_left why →
+    StopsUnwritten (Draw request) (inputs_of left) (inputs_of new_left) faults new_faults (fault_of_obj why)
 obj-stops request left new_left faults new_faults (obj.Line line why) refused reads = record {
   answered = known request left (obj.Line line why) refused;
   may_return = inr (inr (inl refl));
@@ -130,12 +136,17 @@ obj-stops request left new_left faults new_faults obj.Memory refused reads = rec
 }
 
 -- a text that gave no mesh
-pub obj_refused : {T : Type 0} (r : Result T Fault) (request : DrawRequest) (left new_left : Option (List ℕ)) (faults new_faults : ℕ) (why : ObjFault) → IsErr r × IsErrAnd r (λ e. e ≡ fault_of_obj why) → Refused STEPS_PER_UNIT left faults new_faults why → ReadsUpTo STEPS_PER_UNIT left new_left why → IfErr r (StopsUnwritten (Draw request) (inputs_of left) (inputs_of new_left) faults new_faults)
+pub obj_refused : {T : Type 0} (r : Result T Fault) (request : DrawRequest) (left new_left : Option (List ℕ))
+    (faults new_faults : ℕ) (why : ObjFault) → IsErr r × IsErrAnd r (λ e. e ≡ fault_of_obj why) →
+    Refused STEPS_PER_UNIT left faults new_faults why → ReadsUpTo STEPS_PER_UNIT left new_left why →
+    IfErr r (StopsUnwritten (Draw request) (inputs_of left) (inputs_of new_left) faults new_faults)
 obj_refused (Ok text) request left new_left faults new_faults why becomes refused reads = absurd becomes.1
 obj_refused (Err e) request left new_left faults new_faults why becomes refused reads =
-    subst (λ (f : Fault). StopsUnwritten (Draw request) (inputs_of left) (inputs_of new_left) faults new_faults f) (sym becomes.1) (obj-stops request left new_left faults new_faults why refused reads)
+    subst (λ (f : Fault). StopsUnwritten (Draw request) (inputs_of left) (inputs_of new_left) faults new_faults f)
+        (sym becomes.1) (obj-stops request left new_left faults new_faults why refused reads)
 
-memory-reads : (left new_left : Option (List ℕ)) (why : ObjFault) → Memory ≡ fault_of_obj why → ReadsUpTo STEPS_PER_UNIT left new_left why
+memory-reads : (left new_left : Option (List ℕ)) (why : ObjFault) → Memory ≡ fault_of_obj why →
+    ReadsUpTo STEPS_PER_UNIT left new_left why
 memory-reads left new_left (obj.Line line why) e = cc
 memory-reads left new_left obj.TooMany e = cc
 memory-reads left new_left obj.TooLong e = cc
@@ -144,10 +155,13 @@ memory-reads left new_left obj.Read e = cc
 memory-reads left new_left obj.Memory e = tt
 
 -- no memory for the picture or its text
-pub memory_refused : {T : Type 0} (r : Result T Fault) (request : DrawRequest) (left new_left : Option (List ℕ)) (faults new_faults : ℕ) → IsErr r × IsErrAnd r (λ e. e ≡ Memory) → IfErr r (StopsUnwritten (Draw request) (inputs_of left) (inputs_of new_left) faults new_faults)
+pub memory_refused : {T : Type 0} (r : Result T Fault) (request : DrawRequest) (left new_left : Option (List ℕ))
+    (faults new_faults : ℕ) → IsErr r × IsErrAnd r (λ e. e ≡ Memory) →
+    IfErr r (StopsUnwritten (Draw request) (inputs_of left) (inputs_of new_left) faults new_faults)
 memory_refused (Ok text) request left new_left faults new_faults becomes = tt
 memory_refused (Err e) request left new_left faults new_faults becomes =
-    subst (λ (f : Fault). StopsUnwritten (Draw request) (inputs_of left) (inputs_of new_left) faults new_faults f) (sym becomes.1) (record {
+    subst (λ (f : Fault). StopsUnwritten (Draw request) (inputs_of left) (inputs_of new_left) faults new_faults f)
+        (sym becomes.1) (record {
       answered = outside-answers (verdict_of (Draw request) (inputs_of left)) Memory refl;
       may_return = inl refl;
       cause = λ e. cc;
@@ -158,12 +172,17 @@ memory_refused (Err e) request left new_left faults new_faults becomes =
 pub write-reads : (why : ObjFault) → WriteFault ≡ fault_of_obj why → ⊥
 write-reads why e = no_write why (sym e)
 
-pub accepted : (request : DrawRequest) (left : Option (List ℕ)) (tris : List Tri) → Answers STEPS_PER_UNIT left (Ok tris) → verdicts.Answers IsOutside (verdict_of (Draw request) (inputs_of left)) (Ok Drawn)
+pub accepted : (request : DrawRequest) (left : Option (List ℕ)) (tris : List Tri) →
+    Answers STEPS_PER_UNIT left (Ok tris) → verdicts.Answers IsOutside (verdict_of (Draw request) (inputs_of left))
+    (Ok Drawn)
 accepted request None tris listed = tt
-accepted request (Some text) tris listed = accepted-answers (mesh_answer text) tris Drawn (mesh_answer-from text (Ok tris) listed)
+accepted request (Some text) tris listed =
+    accepted-answers (mesh_answer text) tris Drawn (mesh_answer-from text (Ok tris) listed)
 
 -- the text of a picture
-pub picture_made : (request : DrawRequest) (left new_left : Option (List ℕ)) (faults new_faults : ℕ) (text : List ℕ) → IsPictureText request left text → ReadToEnd left new_left → new_faults ≡ faults → IsMade (Draw request) left new_left faults new_faults Drawn text
+pub picture_made : (request : DrawRequest) (left new_left : Option (List ℕ)) (faults new_faults : ℕ) (text : List ℕ) →
+    IsPictureText request left text → ReadToEnd left new_left → new_faults ≡ faults →
+    IsMade (Draw request) left new_left faults new_faults Drawn text
 picture_made request left new_left faults new_faults text picture ended no_fault = record {
   does = (refl, picture);
   accepted = accepted request left picture.tris picture.listed;

@@ -1,5 +1,8 @@
 -- The words of `draw`, one after another.
-use Rattle.std.specs.Prelude.{◌≡◌, ◌≢◌, ◌<◌, ◌≤◌, ℕ, List, [], ◌∷◌, length, map, Option, Some, None, option_and_then, bytes_eq, codes, Bool, true, false, not, refl}
+use Rattle.std.specs.Prelude.{
+  ◌≡◌, ◌≢◌, ◌<◌, ◌≤◌, ℕ, List, [], ◌∷◌, length, map, Option, Some, None, option_and_then, bytes_eq, codes, Bool, true,
+  false, not, refl,
+}
 use Rattle.std.specs.Borrow.{Bor}
 use Rattle.std.proofs.Common.{arith, sym, ◌∙◌, get_or}
 use Rattle.std.proofs.lemmas.List.{length-map}
@@ -25,7 +28,8 @@ draw_words-other words h =
 abbrev pub word : List (Bor (List ℕ)) → ℕ → List ℕ
 word words place = (get_or words place (record { ref_ptr = (0, 0); now = [] })).now
 
-four_words : (words : List (Bor (List ℕ))) → 4 ≤ length words → length words < 5 → map (λ w. w.now) words ≡ word words 0 ∷ word words 1 ∷ word words 2 ∷ word words 3 ∷ []
+four_words : (words : List (Bor (List ℕ))) → 4 ≤ length words → length words < 5 →
+    map (λ w. w.now) words ≡ word words 0 ∷ word words 1 ∷ word words 2 ∷ word words 3 ∷ []
 four_words [] p q = absurd (omega arith)
 four_words (a ∷ []) p q = absurd (omega arith)
 four_words (a ∷ b ∷ []) p q = absurd (omega arith)
@@ -42,7 +46,9 @@ kept true c e h = refl
 kept false c e h = absurd (cc)
 
 -- another command
-pub draw_words-named : (words : List (Bor (List ℕ))) (is_other : Bool) → 4 ≤ length words → length words < 5 → is_other ≡ not (bytes_eq (word words 0) (codes "draw")) → is_other ≡ true → None ≡ draw_words (map (λ w. w.now) words)
+pub draw_words-named : (words : List (Bor (List ℕ))) (is_other : Bool) → 4 ≤ length words → length words < 5 →
+    is_other ≡ not (bytes_eq (word words 0) (codes "draw")) → is_other ≡ true →
+    None ≡ draw_words (map (λ w. w.now) words)
 unfolding draw_words
 draw_words-named words is_other p q e o = rw (four_words words p q, flipped _ is_other e o) refl
 
@@ -54,14 +60,19 @@ abbrev request_of : Option ℕ → Option ℕ → Option View → Option DrawReq
 request_of (Some width) (Some height) (Some view) = Some (the_request width height view)
 request_of width height view = None
 
-together : (width height : Option ℕ) (view : Option View) → request_of width height view ≡ option_and_then (λ w. option_and_then (λ h. option_and_then (λ v. Some (the_request w h v)) view) height) width
+together : (width height : Option ℕ) (view : Option View) →
+    request_of width height view ≡ option_and_then
+    (λ w. option_and_then (λ h. option_and_then (λ v. Some (the_request w h v)) view) height) width
 together None height view = refl
 together (Some w) None view = refl
 together (Some w) (Some h) None = refl
 together (Some w) (Some h) (Some v) = refl
 
 -- `draw`, and its three values
-pub draw_words-values : (words : List (Bor (List ℕ))) (is_other : Bool) (width height : Option ℕ) (view : Option View) → 4 ≤ length words → length words < 5 → is_other ≡ not (bytes_eq (word words 0) (codes "draw")) → is_other ≡ false → side (word words 1) ≡ width → side (word words 2) ≡ height → camera (word words 3) ≡ view → request_of width height view ≡ draw_words (map (λ w. w.now) words)
+pub draw_words-values : (words : List (Bor (List ℕ))) (is_other : Bool) (width height : Option ℕ) (view : Option View) →
+    4 ≤ length words → length words < 5 → is_other ≡ not (bytes_eq (word words 0) (codes "draw")) → is_other ≡ false →
+    side (word words 1) ≡ width → side (word words 2) ≡ height → camera (word words 3) ≡ view →
+    request_of width height view ≡ draw_words (map (λ w. w.now) words)
 unfolding draw_words
 draw_words-values words is_other width height view p q e o w h v =
     rw (four_words words p q, kept _ is_other e o, w, h, v) (together width height view)

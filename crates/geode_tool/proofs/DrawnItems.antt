@@ -12,7 +12,8 @@ use Rattle.geom_core.specs.Picture.{Item, items_of}
 abbrev pub item_at : ℕ → Tri → Item
 item_at k t = record { cluster = k / TRIANGLES_PER_CLUSTER; place = k % TRIANGLES_PER_CLUSTER; tri = t }
 
-enumerate_from-push : (n : ℕ) (tris : List Tri) (t : Tri) → enumerate_from n (tris ++ t ∷ []) ≡ enumerate_from n tris ++ (n + length tris, t) ∷ []
+enumerate_from-push : (n : ℕ) (tris : List Tri) (t : Tri) →
+    enumerate_from n (tris ++ t ∷ []) ≡ enumerate_from n tris ++ (n + length tris, t) ∷ []
 enumerate_from-push n [] t = ap (λ (k : ℕ). (k, t) ∷ []) (sym (add-zero n))
 enumerate_from-push n (s ∷ tris) t =
     let at : n + 1 + length tris ≡ n + length (s ∷ tris) = omega arith in
@@ -26,8 +27,10 @@ items_of-push tris t =
     ∙ ap (λ (k : ℕ). items_of tris ++ item_at k t ∷ []) (zero-add (length tris))
 
 -- one triangle more, behind what the triangles before it draw
-pub drawn-more : (draws : Item → List (ℕ × ℕ)) (before : List (ℕ × ℕ)) (tris : List Tri) (i : ℕ) (d : Tri) → i < length tris →
-    (before ++ flat_map draws (items_of (take i tris))) ++ draws (item_at i (get_or tris i d)) ≡ before ++ flat_map draws (items_of (take (i + 1) tris))
+pub drawn-more : (draws : Item → List (ℕ × ℕ)) (before : List (ℕ × ℕ)) (tris : List Tri) (i : ℕ) (d : Tri) →
+    i < length tris →
+    (before ++ flat_map draws (items_of (take i tris))) ++ draws
+    (item_at i (get_or tris i d)) ≡ before ++ flat_map draws (items_of (take (i + 1) tris))
 drawn-more draws before tris i d within =
     let t : Tri = get_or tris i d in
     let below : i ≤ length tris = omega arith in

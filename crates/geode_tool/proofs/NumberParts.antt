@@ -1,5 +1,8 @@
 -- The numbers of parts, one part after another.
-use Rattle.std.specs.Prelude.{◌≡◌, ◌≢◌, ◌==◌, ◌+◌, ◌<◌, ℕ, suc, ℤ, true, false, List, [], ◌∷◌, ◌++◌, length, take, drop, FitsSigned, Option, Some, None, option_map, option_and_then, refl}
+use Rattle.std.specs.Prelude.{
+  ◌≡◌, ◌≢◌, ◌==◌, ◌+◌, ◌<◌, ℕ, suc, ℤ, true, false, List, [], ◌∷◌, ◌++◌, length, take, drop, FitsSigned, Option, Some,
+  None, option_map, option_and_then, refl,
+}
 use Rattle.std.proofs.Common.{arith, ap, sym, subst, ◌∙◌, get_or, append_assoc, set, to_z, of_z, w64}
 use Rattle.std.proofs.lemmas.Bool.Decides.{nat_tests}
 use Rattle.std.proofs.lemmas.Int.{to_z-of_z}
@@ -12,16 +15,20 @@ number_before None ns = None
 number_before (Some n) None = None
 number_before (Some n) (Some ns) = Some (n ∷ ns)
 
-before_is : (n : Option ℤ) (ns : Option (List ℤ)) → option_and_then (λ m. option_and_then (λ ms. Some (m ∷ ms)) ns) n ≡ number_before n ns
+before_is : (n : Option ℤ) (ns : Option (List ℤ)) →
+    option_and_then (λ m. option_and_then (λ ms. Some (m ∷ ms)) ns) n ≡ number_before n ns
 before_is None ns = refl
 before_is (Some n) None = refl
 before_is (Some n) (Some ns) = refl
 
-numbers_of-cons : (part : List ℕ) (parts : List (List ℕ)) → numbers_of (part ∷ parts) ≡ number_before (signed_number 11 part) (numbers_of parts)
+numbers_of-cons : (part : List ℕ) (parts : List (List ℕ)) →
+    numbers_of (part ∷ parts) ≡ number_before (signed_number 11 part) (numbers_of parts)
 numbers_of-cons part parts = before_is (signed_number 11 part) (numbers_of parts)
 
 -- the part at a place, and those after it
-numbers_of-drop : (parts : List (List ℕ)) (count : ℕ) (part : List ℕ) → count < length parts → part ≡ get_or parts count part → numbers_of (drop count parts) ≡ number_before (signed_number 11 part) (numbers_of (drop (count + 1) parts))
+numbers_of-drop : (parts : List (List ℕ)) (count : ℕ) (part : List ℕ) → count < length parts →
+    part ≡ get_or parts count part → numbers_of (drop count parts) ≡ number_before (signed_number 11 part)
+    (numbers_of (drop (count + 1) parts))
 numbers_of-drop parts count part h e =
     ap numbers_of (drop_more parts count part h)
     ∙ numbers_of-cons (get_or parts count part) (drop (count + 1) parts)
@@ -40,7 +47,8 @@ before-length (Some n) (Some ns) k h = ap suc h
 numbers_of-length : (parts : List (List ℕ)) → HasLength (length parts) (numbers_of parts)
 numbers_of-length [] = refl
 numbers_of-length (part ∷ parts) =
-    subst (HasLength (suc (length parts))) (sym (numbers_of-cons part parts)) (before-length (signed_number 11 part) (numbers_of parts) (length parts) (numbers_of-length parts))
+    subst (HasLength (suc (length parts))) (sym (numbers_of-cons part parts))
+        (before-length (signed_number 11 part) (numbers_of parts) (length parts) (numbers_of-length parts))
 
 not_fifteen : (n : ℕ) → n ≢ 15 → (n == 15) ≡ false
 not_fifteen n h = grind (arith, nat_tests)
@@ -59,30 +67,39 @@ SoFar parts numbers count =
     option_map (λ ns. take count numbers ++ ns) (numbers_of (drop count parts)) ≡ numbers_of parts
 
 -- a sixteenth part
-pub fifteen-more : (parts : List (List ℕ)) (count n : ℕ) (part : List ℕ) → count ≡ n → count ≡ 15 → IsNext parts n part → None ≡ fifteen (numbers_of parts)
+pub fifteen-more : (parts : List (List ℕ)) (count n : ℕ) (part : List ℕ) → count ≡ n → count ≡ 15 →
+    IsNext parts n part → None ≡ fifteen (numbers_of parts)
 fifteen-more parts count n part e full next =
     sym (fifteen_other (numbers_of parts) (length parts) (numbers_of-length parts) (λ h. absurd (omega arith)))
 
 -- fewer than fifteen parts
-pub fifteen-fewer : (parts : List (List ℕ)) (count n : ℕ) → count ≡ n → count ≢ 15 → n ≡ length parts → None ≡ fifteen (numbers_of parts)
+pub fifteen-fewer : (parts : List (List ℕ)) (count n : ℕ) → count ≡ n → count ≢ 15 → n ≡ length parts →
+    None ≡ fifteen (numbers_of parts)
 fifteen-fewer parts count n e other end =
     sym (fifteen_other (numbers_of parts) (length parts) (numbers_of-length parts) (λ h. absurd (omega arith)))
 
 -- a part that is no number
-pub fifteen-none : (parts : List (List ℕ)) (numbers : List ℤ) (count n : ℕ) (part : List ℕ) → count ≡ n → IsNext parts n part → SoFar parts numbers count → signed_number 11 part ≡ None → None ≡ fifteen (numbers_of parts)
+pub fifteen-none : (parts : List (List ℕ)) (numbers : List ℤ) (count n : ℕ) (part : List ℕ) → count ≡ n →
+    IsNext parts n part → SoFar parts numbers count → signed_number 11 part ≡ None → None ≡ fifteen (numbers_of parts)
 fifteen-none parts numbers count n part e next so_far none =
     let rest = numbers_of (drop (count + 1) parts) in
     let here : IsNext parts count part = subst (λ (k : ℕ). IsNext parts k part) (sym e) next in
-    let nothing : numbers_of (drop count parts) ≡ None = numbers_of-drop parts count part here.0 here.1 ∙ ap (λ m. number_before m rest) none in
+    let nothing : numbers_of (drop count parts) ≡ None =
+        numbers_of-drop parts count part here.0 here.1 ∙ ap (λ m. number_before m rest) none in
     sym (ap fifteen (sym so_far ∙ ap (option_map (λ ns. take count numbers ++ ns)) nothing))
 
-before-set : (numbers : List ℤ) (count : ℕ) (m : ℤ) (ns : Option (List ℤ)) → count < length numbers → option_map (λ ms. take count numbers ++ ms) (number_before (Some m) ns) ≡ option_map (λ ms. take (count + 1) (set numbers count m) ++ ms) ns
+before-set : (numbers : List ℤ) (count : ℕ) (m : ℤ) (ns : Option (List ℤ)) → count < length numbers →
+    option_map (λ ms. take count numbers ++ ms) (number_before (Some m) ns) ≡ option_map
+    (λ ms. take (count + 1) (set numbers count m) ++ ms) ns
 before-set numbers count m None h = refl
 before-set numbers count m (Some ns) h =
-    ap Some (sym (ap (λ xs. xs ++ ns) (take_more_set numbers count m h) ∙ append_assoc (take count numbers) (m ∷ []) ns))
+    ap Some (sym (ap (λ xs. xs ++ ns) (take_more_set numbers count m h) ∙
+        append_assoc (take count numbers) (m ∷ []) ns))
 
 -- one number more, as the code stores it
-pub SoFar-more : (parts : List (List ℕ)) (numbers : List ℤ) (count n : ℕ) (part : List ℕ) (m : ℤ) → count ≡ n → count < length numbers → FitsSigned w64 m → IsNext parts n part → SoFar parts numbers count → signed_number 11 part ≡ Some m → SoFar parts (set numbers count (to_z w64 (of_z w64 m))) (count + 1)
+pub SoFar-more : (parts : List (List ℕ)) (numbers : List ℤ) (count n : ℕ) (part : List ℕ) (m : ℤ) → count ≡ n →
+    count < length numbers → FitsSigned w64 m → IsNext parts n part → SoFar parts numbers count →
+    signed_number 11 part ≡ Some m → SoFar parts (set numbers count (to_z w64 (of_z w64 m))) (count + 1)
 SoFar-more parts numbers count n part m e room fits next so_far some =
     let rest = numbers_of (drop (count + 1) parts) in
     let here : IsNext parts count part = subst (λ (k : ℕ). IsNext parts k part) (sym e) next in
@@ -93,11 +110,15 @@ SoFar-more parts numbers count n part m e room fits next so_far some =
     ∙ so_far
 
 -- fifteen numbers
-pub fifteen-all : (parts : List (List ℕ)) (numbers : List ℤ) (count n : ℕ) → count ≡ n → count ≡ 15 → n ≡ length parts → length numbers ≡ 15 → SoFar parts numbers count → Some numbers ≡ fifteen (numbers_of parts)
+pub fifteen-all : (parts : List (List ℕ)) (numbers : List ℤ) (count n : ℕ) → count ≡ n → count ≡ 15 → n ≡ length parts →
+    length numbers ≡ 15 → SoFar parts numbers count → Some numbers ≡ fifteen (numbers_of parts)
 fifteen-all parts numbers count n e full end whole so_far =
     let none_left : drop count parts ≡ [] = drop_all count parts (omega arith) in
-    let all_there : take count numbers ++ [] ≡ numbers = append-nil (take count numbers) ∙ take_all count numbers (omega arith) in
-    let same : Some numbers ≡ numbers_of parts = ap Some (sym all_there) ∙ ap (λ ps. option_map (λ ns. take count numbers ++ ns) (numbers_of ps)) (sym none_left) ∙ so_far in
+    let all_there : take count numbers ++ [] ≡ numbers =
+        append-nil (take count numbers) ∙ take_all count numbers (omega arith) in
+    let same : Some numbers ≡ numbers_of parts =
+        ap Some (sym all_there) ∙ ap (λ ps. option_map (λ ns. take count numbers ++ ns) (numbers_of ps)) (sym none_left)
+        ∙ so_far in
     let test : (length numbers == 15) ≡ true = grind (arith, nat_tests) in
     let kept : fifteen (Some numbers) ≡ Some numbers = rw test refl in
     sym kept ∙ ap fifteen same

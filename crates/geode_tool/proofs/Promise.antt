@@ -1,5 +1,7 @@
 -- What the promise of a command says, for each way that its call ends.
-use Rattle.std.proofs.Common.{◌≡◌, ◌≢◌, ◌≤◌, ℕ, List, Bool, true, length, take, Option, Result, Ok, Err, inl, inr, sym, subst, refl, ◌∙◌, arith}
+use Rattle.std.proofs.Common.{
+  ◌≡◌, ◌≢◌, ◌≤◌, ℕ, List, Bool, true, length, take, Option, Result, Ok, Err, inl, inr, sym, subst, refl, ◌∙◌, arith,
+}
 use Rattle.std.specs.Prelude.{IsErr, IfErr}
 use Rattle.std.specs.Result.{IsErrAnd}
 use Rattle.span_io.specs.Faults.{Rose}
@@ -8,7 +10,9 @@ use Rattle.geode_tool.specs.declared.commands.Command.{Command}
 use Rattle.geode_tool.specs.declared.commands.Command.TheVariants.{Draw, Audit, Make, Build}
 use Rattle.geode_tool.specs.declared.faults.Done.{Done}
 use Rattle.geode_tool.specs.declared.faults.Fault.{Fault}
-use Rattle.geode_tool.specs.declared.faults.Fault.TheVariants.{Usage, ReadFault, TooLong, BadObj, TooMany, Empty, BadJournal, Illegal, WriteFault, Memory}
+use Rattle.geode_tool.specs.declared.faults.Fault.TheVariants.{
+  Usage, ReadFault, TooLong, BadObj, TooMany, Empty, BadJournal, Illegal, WriteFault, Memory,
+}
 use Rattle.geode_tool.specs.declared.faults.UsageKind.{UsageKind}
 use Rattle.geode_tool.specs.Commands.{verdict_of, Does, HasRead, ReadsUpTo}
 use Rattle.geode_tool.specs.FaultTable.{IsMemory, IsOutside, MayReturn}
@@ -24,13 +28,16 @@ outside-answers (Refuses first) fault outside = inr outside
 outside-answers Accepts fault outside = outside
 outside-answers Undecided fault outside = tt
 
-pub refused-answers : {A : Type 0} (found : Result A Fault) (fault : Fault) → found ≡ Err fault → Answers IsOutside (verdict_from found) (Err fault)
+pub refused-answers : {A : Type 0} (found : Result A Fault) (fault : Fault) → found ≡ Err fault →
+    Answers IsOutside (verdict_from found) (Err fault)
 refused-answers found fault e = rw e (inl refl)
 
-pub accepted-answers : {A : Type 0} (found : Result A Fault) (a : A) (done : Done) → found ≡ Ok a → Answers IsOutside (verdict_from found) (Ok done)
+pub accepted-answers : {A : Type 0} (found : Result A Fault) (a : A) (done : Done) → found ≡ Ok a →
+    Answers IsOutside (verdict_from found) (Ok done)
 accepted-answers found a done e = rw e tt
 
-success-answers : (verdict : Verdict) (done : Done) → Answers IsOutside verdict (Ok done) → Answers IsMemory verdict (Ok done)
+success-answers : (verdict : Verdict) (done : Done) → Answers IsOutside verdict (Ok done) →
+    Answers IsMemory verdict (Ok done)
 success-answers (Refuses first) done answers = absurd answers
 success-answers Accepts done answers = tt
 success-answers Undecided done answers = tt
@@ -48,7 +55,8 @@ memory-else (Illegal entry) no_read no_write outside = cc
 memory-else WriteFault no_read no_write outside = absurd (no_write refl)
 memory-else Memory no_read no_write outside = refl
 
-complete-answers : (verdict : Verdict) (fault : Fault) → fault ≢ ReadFault → fault ≢ WriteFault → Answers IsOutside verdict (Err fault) → Answers IsMemory verdict (Err fault)
+complete-answers : (verdict : Verdict) (fault : Fault) → fault ≢ ReadFault → fault ≢ WriteFault →
+    Answers IsOutside verdict (Err fault) → Answers IsMemory verdict (Err fault)
 complete-answers (Refuses first) fault no_read no_write answers = elim answers [
   | inl same ↦ inl same
   | inr outside ↦ inr (memory-else fault no_read no_write outside)
@@ -57,14 +65,24 @@ complete-answers Accepts fault no_read no_write answers = memory-else fault no_r
 complete-answers Undecided fault no_read no_write answers = tt
 
 -- a fault before the first write
-pub promise-refused : {K : Type 0} (command : Command) (left new_left : Option (List ℕ)) (faults new_faults : ℕ) (written : Option (List ℕ)) (flushed : Bool) (output_faults : ℕ) (output : K) (r : Result Done Fault) (fault : Fault) →
-    IsErr r × IsErrAnd r (λ e. e ≡ fault) → StopsUnwritten command (inputs_of left) (inputs_of new_left) faults new_faults fault → faults ≤ new_faults →
-    Holds command (streams left faults written flushed output_faults output) (streams new_left new_faults written flushed output_faults output) r
-promise-refused command left new_left faults new_faults written flushed output_faults output (Ok done) fault becomes given count = absurd becomes.1
-promise-refused command left new_left faults new_faults written flushed output_faults output (Err e) fault becomes given count =
-    let stops = subst (λ (f : Fault). StopsUnwritten command (inputs_of left) (inputs_of new_left) faults new_faults f) (sym becomes.1) given in record {
+pub promise-refused : {K : Type 0} (command : Command) (left new_left : Option (List ℕ)) (faults new_faults : ℕ)
+    (written : Option (List ℕ)) (flushed : Bool) (output_faults : ℕ) (output : K) (r : Result Done Fault)
+    (fault : Fault) →
+    IsErr r × IsErrAnd r (λ e. e ≡ fault) → StopsUnwritten command (inputs_of left)
+    (inputs_of new_left) faults new_faults fault → faults ≤ new_faults →
+    Holds command (streams left faults written flushed output_faults output)
+    (streams new_left new_faults written flushed output_faults output) r
+promise-refused command left new_left faults new_faults written flushed output_faults output
+    (Ok done) fault becomes given count = absurd becomes.1
+promise-refused command left new_left faults new_faults written flushed output_faults output
+    (Err e) fault becomes given count =
+    let stops =
+        subst (λ (f : Fault). StopsUnwritten command (inputs_of left) (inputs_of new_left) faults new_faults f)
+        (sym becomes.1) given in record {
       answered = stops.answered;
-      complete = λ no_read no_write. complete-answers (verdict_of command (inputs_of left)) e (λ is. no_read (stops.cause is)) stops.no_write stops.answered;
+      complete =
+          λ no_read no_write. complete-answers (verdict_of command (inputs_of left)) e
+          (λ is. no_read (stops.cause is)) stops.no_write stops.answered;
       written = tt;
       flushed = tt;
       input_read = tt;
@@ -78,7 +96,8 @@ promise-refused command left new_left faults new_faults written flushed output_f
     }
 
 -- what a success of the command is, and how far it reads, for a failed write
-pub record IsMade (command : Command) (left new_left : Option (List ℕ)) (faults new_faults : ℕ) (done : Done) (text : List ℕ) : Type 0 where
+pub record IsMade (command : Command) (left new_left : Option (List ℕ)) (faults new_faults : ℕ) (done : Done)
+    (text : List ℕ) : Type 0 where
   pub does : Does command (inputs_of left) done text
   pub accepted : Answers IsOutside (verdict_of command (inputs_of left)) (Ok done)
   pub input_read : HasRead command (inputs_of left) (inputs_of new_left)
@@ -87,14 +106,22 @@ pub record IsMade (command : Command) (left new_left : Option (List ℕ)) (fault
   pub no_fault : new_faults ≡ faults
 
 -- a failed write or flush
-pub promise-unwritten : {K : Type 0} (command : Command) (left new_left : Option (List ℕ)) (faults new_faults : ℕ) (written new_written : Option (List ℕ)) (flushed new_flushed : Bool) (output_faults new_output_faults : ℕ) (output new_output : K) (r : Result Done Fault) (fault : Fault) (done : Done) (text : List ℕ) →
-    IsErr r × IsErrAnd r (λ e. e ≡ fault) → fault ≡ WriteFault → IsMade command left new_left faults new_faults done text →
-    Rose output_faults new_output_faults → ((count : ℕ) × (count ≤ length text) × Appended written new_written (take count text)) →
-    Holds command (streams left faults written flushed output_faults output) (streams new_left new_faults new_written new_flushed new_output_faults new_output) r
-promise-unwritten command left new_left faults new_faults written new_written flushed new_flushed output_faults new_output_faults output new_output (Ok done') fault done text becomes is made rose prefix = absurd becomes.1
-promise-unwritten command left new_left faults new_faults written new_written flushed new_flushed output_faults new_output_faults output new_output (Err e) fault done text becomes is made rose prefix =
+pub promise-unwritten : {K : Type 0} (command : Command) (left new_left : Option (List ℕ)) (faults new_faults : ℕ)
+    (written new_written : Option (List ℕ)) (flushed new_flushed : Bool) (output_faults new_output_faults : ℕ)
+    (output new_output : K) (r : Result Done Fault) (fault : Fault) (done : Done) (text : List ℕ) →
+    IsErr r × IsErrAnd r (λ e. e ≡ fault) → fault ≡ WriteFault →
+    IsMade command left new_left faults new_faults done text →
+    Rose output_faults new_output_faults → ((count : ℕ) × (count ≤ length text) ×
+    Appended written new_written (take count text)) →
+    Holds command (streams left faults written flushed output_faults output)
+    (streams new_left new_faults new_written new_flushed new_output_faults new_output) r
+promise-unwritten command left new_left faults new_faults written new_written flushed new_flushed output_faults
+    new_output_faults output new_output (Ok done') fault done text becomes is made rose prefix = absurd becomes.1
+promise-unwritten command left new_left faults new_faults written new_written flushed new_flushed output_faults
+    new_output_faults output new_output (Err e) fault done text becomes is made rose prefix =
     let same : WriteFault ≡ e = sym (becomes.1 ∙ is) in
-    subst (λ (f : Fault). Holds command (streams left faults written flushed output_faults output) (streams new_left new_faults new_written new_flushed new_output_faults new_output) (Err f)) same (record {
+    subst (λ (f : Fault). Holds command (streams left faults written flushed output_faults output)
+        (streams new_left new_faults new_written new_flushed new_output_faults new_output) (Err f)) same (record {
       answered = outside-answers (verdict_of command (inputs_of left)) WriteFault refl;
       complete = λ no_read no_write. absurd (no_write rose);
       written = tt;
@@ -104,7 +131,9 @@ promise-unwritten command left new_left faults new_faults written new_written fl
       causes = record { read_fault = λ other. cc; write_fault = λ same. rose };
       reads = made.reads;
       prefix = record {
-        write_fault = λ same. record { text = text; is_output = (done, made.does); count = prefix.0; within = prefix.1; appended = prefix.2 };
+        write_fault =
+            λ same. record { text = text; is_output = (done, made.does); count = prefix.0; within = prefix.1; appended =
+            prefix.2 };
         memory = λ other. cc;
       };
       output_unchanged = λ no_write no_memory. absurd (no_write refl);
@@ -113,10 +142,15 @@ promise-unwritten command left new_left faults new_faults written new_written fl
     })
 
 -- a success
-pub promise-done : {K : Type 0} (command : Command) (left new_left : Option (List ℕ)) (faults new_faults : ℕ) (written new_written : Option (List ℕ)) (flushed new_flushed : Bool) (output_faults new_output_faults : ℕ) (output new_output : K) (done : Done) (text : List ℕ) →
-    IsMade command left new_left faults new_faults done text → Appended written new_written text → new_flushed ≡ true → new_output_faults ≡ output_faults →
-    Holds command (streams left faults written flushed output_faults output) (streams new_left new_faults new_written new_flushed new_output_faults new_output) (Ok done)
-promise-done command left new_left faults new_faults written new_written flushed new_flushed output_faults new_output_faults output new_output done text made appended is_flushed no_fault = record {
+pub promise-done : {K : Type 0} (command : Command) (left new_left : Option (List ℕ)) (faults new_faults : ℕ)
+    (written new_written : Option (List ℕ)) (flushed new_flushed : Bool) (output_faults new_output_faults : ℕ)
+    (output new_output : K) (done : Done) (text : List ℕ) →
+    IsMade command left new_left faults new_faults done text → Appended written new_written text → new_flushed ≡ true →
+    new_output_faults ≡ output_faults →
+    Holds command (streams left faults written flushed output_faults output)
+    (streams new_left new_faults new_written new_flushed new_output_faults new_output) (Ok done)
+promise-done command left new_left faults new_faults written new_written flushed new_flushed output_faults
+    new_output_faults output new_output done text made appended is_flushed no_fault = record {
   answered = made.accepted;
   complete = λ no_read no_write. success-answers (verdict_of command (inputs_of left)) done made.accepted;
   written = record { text = text; is_output = made.does; appended = appended };
@@ -128,7 +162,9 @@ promise-done command left new_left faults new_faults written new_written flushed
   prefix = tt;
   output_unchanged = tt;
   memory = λ first. tt;
-  counts = record { input = omega (arith, made.no_fault); output = omega (arith, no_fault); none_in_success = (made.no_fault, no_fault) };
+  counts =
+      record { input = omega (arith, made.no_fault); output = omega (arith, no_fault); none_in_success =
+      (made.no_fault, no_fault) };
 }
 
 -- no command returns a fault of the words
@@ -147,6 +183,7 @@ no_words Build kind may = elim may [
   | inr more ↦ elim more [ inl length ↦ cc | inr rest ↦ elim rest [ inl mesh ↦ cc | inr none ↦ none ] ]
 ]
 
-pub no_usage : {K : Type 0} (command : Command) (before after : Streams K) (r : Result Done Fault) (kind : UsageKind) → Holds command before after r → r ≡ Err (Usage kind) → ⊥
+pub no_usage : {K : Type 0} (command : Command) (before after : Streams K) (r : Result Done Fault) (kind : UsageKind) →
+    Holds command before after r → r ≡ Err (Usage kind) → ⊥
 no_usage command before after r kind holds e =
     no_words command kind (subst (λ (x : Result Done Fault). IfErr x (MayReturn command)) e holds.refusals)

@@ -22,7 +22,8 @@ use Rattle.geode_tool.specs.Verdicts.{Verdict}
 abbrev pub build_verdict : Inputs → Verdict
 build_verdict inputs = draw_verdict inputs
 
--- The laid-out DAG is that of the levels of detail of the mesh in the input's bytes: it is sound, and its source mesh is
+-- The laid-out DAG is that of the levels of detail of the mesh in the input's bytes: it is sound, and its source mesh
+-- is
 -- that mesh. If the bytes are not known, it is that of the mesh in some text.
 pub record IsBuiltFrom (input : Option (List ℕ)) (laid : Dag) : Type 0 where
   pub tris : List Tri

@@ -31,7 +31,8 @@ pub record HasCause {K : Type 0} (before after : Streams K) (fault : Fault) : Ty
 pub record CountsFailures {K : Type 0} (before after : Streams K) (result : Result Done Fault) : Type 0 where
   pub input : before.input_faults ≤ after.input_faults
   pub output : before.output_faults ≤ after.output_faults
-  pub none_in_success : OnOk result ((after.input_faults ≡ before.input_faults) × (after.output_faults ≡ before.output_faults))
+  pub none_in_success : OnOk result ((after.input_faults ≡ before.input_faults) ×
+      (after.output_faults ≡ before.output_faults))
 
 -- a text that a success of the command may write
 abbrev pub IsOutput : Command → Inputs → List ℕ → Type 0

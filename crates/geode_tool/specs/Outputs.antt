@@ -19,6 +19,7 @@ pub record WritesPrefix (IsOutput : List ℕ → Type 0) (written new_written : 
   pub appended : Appended written new_written (take count text)
 
 -- a prefix after a failed write; after want of memory nothing, or a prefix
-pub record LeavesPrefix (IsOutput : List ℕ → Type 0) (written new_written : Option (List ℕ)) (fault : Fault) : Type 0 where
+pub record LeavesPrefix (IsOutput : List ℕ → Type 0) (written new_written : Option (List ℕ))
+    (fault : Fault) : Type 0 where
   pub write_fault : fault ≡ WriteFault → WritesPrefix IsOutput written new_written
   pub memory : fault ≡ Memory → (new_written ≡ written) ⊎ WritesPrefix IsOutput written new_written

@@ -18,7 +18,8 @@ distinct_is : (t : Tri) → (differ t.a t.b && differ t.b t.c && differ t.c t.a)
 unfolding has_distinct_corners
 distinct_is t = rw (differ_is t.a t.b, differ_is t.b t.c, differ_is t.c t.a)
 
-pub distinct_by_last : (t : Tri) (r : Bool) → true ≡ differ t.a t.b → true ≡ differ t.b t.c → r ≡ differ t.c t.a → r ≡ has_distinct_corners t
+pub distinct_by_last : (t : Tri) (r : Bool) → true ≡ differ t.a t.b → true ≡ differ t.b t.c → r ≡ differ t.c t.a →
+    r ≡ has_distinct_corners t
 distinct_by_last t r first second last = rw (← distinct_is t, ← first, ← second) last
 
 pub distinct_not_second : (t : Tri) → true ≡ differ t.a t.b → false ≡ differ t.b t.c → false ≡ has_distinct_corners t

@@ -13,4 +13,5 @@ outside lo hi v = if int_lt v lo then unsigned_abs (lo -ℤ v) else (if int_lt h
 
 -- the distance from the nearest point of the box, which is 0 inside it
 unfoldable pub box_distance : Cube → Pt → ℕ
-box_distance box p = max (outside box.lo.x box.hi.x p.x) (max (outside box.lo.y box.hi.y p.y) (outside box.lo.z box.hi.z p.z))
+box_distance box p =
+    max (outside box.lo.x box.hi.x p.x) (max (outside box.lo.y box.hi.y p.y) (outside box.lo.z box.hi.z p.z))

@@ -1,7 +1,9 @@
 -- The ranges of coordinates, points, triangles, pictures and spots, over the numbers of `limits.rt`. A range that
 -- a file format decides is a Bool, with its fact on top.
 use Rattle.std.specs.Prelude.{Bool, not, ◌&&◌, ◌≤◌, ◌^◌, ℕ, ℤ, unsigned_abs, nat_le, nat_lt, IsTrue, List, length, All}
-use Rattle.geom_core.specs.declared.limits.TheConstants.{MAX_TRIANGLES, MAX_COORDINATE, MAX_EYE, MAX_STEPS_PER_UNIT, MAX_SIDE, MAX_SCREEN_COORDINATE, MAX_DEPTH, CLUSTER_BITS}
+use Rattle.geom_core.specs.declared.limits.TheConstants.{
+  MAX_TRIANGLES, MAX_COORDINATE, MAX_EYE, MAX_STEPS_PER_UNIT, MAX_SIDE, MAX_SCREEN_COORDINATE, MAX_DEPTH, CLUSTER_BITS,
+}
 use Rattle.geom_core.specs.declared.points.Pt.{Pt}
 use Rattle.geom_core.specs.declared.triangles.Tri.{Tri}
 use Rattle.geom_core.specs.declared.screens.Spot.{Spot}
@@ -10,7 +12,8 @@ use Rattle.geom_core.specs.EdgeSum.{same_point}
 
 -- each coordinate of the point is at most this far from 0
 abbrev pub is_point_within : ℕ → Pt → Bool
-is_point_within most p = nat_le (unsigned_abs p.x) most && nat_le (unsigned_abs p.y) most && nat_le (unsigned_abs p.z) most
+is_point_within most p =
+    nat_le (unsigned_abs p.x) most && nat_le (unsigned_abs p.y) most && nat_le (unsigned_abs p.z) most
 
 -- a coordinate of a mesh
 abbrev pub is_grid_coordinate : ℤ → Bool

@@ -41,4 +41,6 @@ picture view size items = picture_of_words size (flat_map (drawn view size) item
 
 -- a mesh without clusters: they are cut from its triangles in their order
 abbrev pub items_of : List Tri → List Item
-items_of tris = map (λ (k, t). record { cluster = k / TRIANGLES_PER_CLUSTER; place = k % TRIANGLES_PER_CLUSTER; tri = t }) (enumerate_from 0 tris)
+items_of tris =
+    map (λ (k, t). record { cluster = k / TRIANGLES_PER_CLUSTER; place = k % TRIANGLES_PER_CLUSTER; tri = t })
+    (enumerate_from 0 tris)

@@ -57,10 +57,12 @@ abbrev side_sums : List ℤ
 side_sums = minus_one ∷ one ∷ minus_one ∷ one ∷ []
 
 abbrev first_rim : EdgeSums
-first_rim = edge_sums (edge_of A M ∷ edge_of A B ∷ edge_of M C ∷ edge_of B C ∷ []) (minus_one ∷ one ∷ minus_one ∷ one ∷ [])
+first_rim =
+    edge_sums (edge_of A M ∷ edge_of A B ∷ edge_of M C ∷ edge_of B C ∷ []) (minus_one ∷ one ∷ minus_one ∷ one ∷ [])
 
 abbrev second_rim : EdgeSums
-second_rim = edge_sums (edge_of A D ∷ edge_of A M ∷ edge_of D C ∷ edge_of M C ∷ []) (minus_one ∷ one ∷ minus_one ∷ one ∷ [])
+second_rim =
+    edge_sums (edge_of A D ∷ edge_of A M ∷ edge_of D C ∷ edge_of M C ∷ []) (minus_one ∷ one ∷ minus_one ∷ one ∷ [])
 
 -- ---- edges: ordered by u, then v, each by x, y and z
 
@@ -118,12 +120,14 @@ pub joined_halves_on_sides : map (λ e. sum_in_all e (first_rim ∷ second_rim �
 unfolding same_point sum_in sum_in_all
 joined_halves_on_sides = refl
 
-pub joined_halves_between : map (λ e. sum_in_all e (first_rim ∷ second_rim ∷ [])) (edge_of A M ∷ edge_of M C ∷ []) ≡ pos 0 ∷ pos 0 ∷ []
+pub joined_halves_between : map (λ e. sum_in_all e (first_rim ∷ second_rim ∷ []))
+    (edge_of A M ∷ edge_of M C ∷ []) ≡ pos 0 ∷ pos 0 ∷ []
 unfolding same_point sum_in sum_in_all
 joined_halves_between = refl
 
 -- the sum of an edge that stands twice is both
-pub sum_in_repeated : sum_in (edge_of A B) (edge_of A B ∷ edge_of A D ∷ edge_of A B ∷ []) (pos 3 ∷ pos 5 ∷ minus_one ∷ []) ≡ pos 2
+pub sum_in_repeated : sum_in (edge_of A B) (edge_of A B ∷ edge_of A D ∷ edge_of A B ∷ [])
+    (pos 3 ∷ pos 5 ∷ minus_one ∷ []) ≡ pos 2
 unfolding same_point sum_in
 sum_in_repeated = refl
 
@@ -134,7 +138,8 @@ sum_in_short = refl
 
 -- of all sums of three parts, none on the way is that of the whole
 pub sum_over_three : sum_in_all (edge_of A B)
-    (edge_sums (edge_of A B ∷ []) (pos 2 ∷ []) ∷ edge_sums (edge_of A B ∷ []) (one ∷ []) ∷ edge_sums (edge_of A B ∷ []) (negsuc 2 ∷ []) ∷ []) ≡ pos 0
+    (edge_sums (edge_of A B ∷ []) (pos 2 ∷ []) ∷ edge_sums (edge_of A B ∷ []) (one ∷ []) ∷ edge_sums (edge_of A B ∷ [])
+        (negsuc 2 ∷ []) ∷ []) ≡ pos 0
 unfolding same_point sum_in sum_in_all
 sum_over_three = refl
 
@@ -151,14 +156,16 @@ pub doubled_sum_back : sum_on (tri A B C ∷ tri A B C ∷ []) (edge_of A C) ≡
 unfolding same_point edges_of edge_count edge_sum
 doubled_sum_back = refl
 
-pub back_cancels : map (λ (e : Edge). is_rim_edge (tri A B C ∷ tri C B A ∷ []) e.u e.v) (edge_of A B ∷ edge_of A C ∷ edge_of B C ∷ []) ≡
+pub back_cancels : map (λ (e : Edge). is_rim_edge (tri A B C ∷ tri C B A ∷ []) e.u e.v)
+    (edge_of A B ∷ edge_of A C ∷ edge_of B C ∷ []) ≡
     false ∷ false ∷ false ∷ []
 unfolding same_point edges_of edge_count edge_sum is_rim_edge
 back_cancels = refl
 
 -- ---- terms
 
-pub terms_of_a_triangle : terms_of (tri A B C) ≡ term (edge_of A B) one ∷ term (edge_of B C) one ∷ term (edge_of A C) minus_one ∷ []
+pub terms_of_a_triangle : terms_of (tri A B C) ≡ term (edge_of A B) one ∷ term (edge_of B C) one ∷ term
+    (edge_of A C) minus_one ∷ []
 unfolding edges_of term_of terms_of
 terms_of_a_triangle = refl
 
@@ -167,7 +174,8 @@ pub terms_of_a_flat_triangle : terms_of (tri A A B) ≡ term (edge_of A B) one �
 unfolding edges_of term_of terms_of
 terms_of_a_flat_triangle = refl
 
-pub total_of_two : total_at (edge_of A B) (term (edge_of A B) (pos 3) ∷ term (edge_of A C) (pos 5) ∷ term (edge_of A B) minus_one ∷ []) ≡ pos 2
+pub total_of_two : total_at (edge_of A B)
+    (term (edge_of A B) (pos 3) ∷ term (edge_of A C) (pos 5) ∷ term (edge_of A B) minus_one ∷ []) ≡ pos 2
 unfolding same_point total_at
 total_of_two = refl
 
@@ -177,7 +185,8 @@ cancelled_term = refl
 pub term_left : unless_cancelled (term (edge_of A B) minus_one) ≡ term (edge_of A B) minus_one ∷ []
 term_left = refl
 
-pub terms_in_two_parts : terms_in_all (edge_sums (edge_of A B ∷ edge_of A C ∷ []) (one ∷ pos 2 ∷ []) ∷ edge_sums (edge_of B C ∷ []) (pos 3 ∷ []) ∷ []) ≡
+pub terms_in_two_parts : terms_in_all (edge_sums (edge_of A B ∷ edge_of A C ∷ []) (one ∷ pos 2 ∷ []) ∷ edge_sums
+    (edge_of B C ∷ []) (pos 3 ∷ []) ∷ []) ≡
     term (edge_of A B) one ∷ term (edge_of A C) (pos 2) ∷ term (edge_of B C) (pos 3) ∷ []
 unfolding terms_in
 terms_in_two_parts = refl
@@ -206,7 +215,8 @@ pub corners_of_three : corners_at 7 (tri A B C) ≡
 unfolding corners_at same_point
 corners_of_three = refl
 
-pub corners_at_a_point : at_point {T = ℕ} B (record { point = A; what = 0 } ∷ record { point = B; what = 1 } ∷ record { point = B; what = 2 } ∷ []) ≡
+pub corners_at_a_point : at_point {T = ℕ} B
+    (record { point = A; what = 0 } ∷ record { point = B; what = 1 } ∷ record { point = B; what = 2 } ∷ []) ≡
     record { point = B; what = 1 } ∷ record { point = B; what = 2 } ∷ []
 unfolding same_point
 corners_at_a_point = refl

@@ -1,6 +1,11 @@
 -- Incidences by point: what a stable sort leaves of the incidences at a point, and where these stand in a sorted list.
-use Rattle.std.proofs.Common.{◌≡◌, ℕ, suc, ◌+◌, ◌-◌, ◌<◌, ◌≤◌, Bool, true, false, not, ◌&&◌, List, [], ◌∷◌, ◌++◌, length, take, drop, get_or, filter, All, Ordering, refl, sym, ap, ◌∙◌, inl, inr, arith}
-use Rattle.std.proofs.lemmas.List.{get_or-drop, get_or-take, length-drop, length-take, take-append-drop, drop-drop, append-nil}
+use Rattle.std.proofs.Common.{
+  ◌≡◌, ℕ, suc, ◌+◌, ◌-◌, ◌<◌, ◌≤◌, Bool, true, false, not, ◌&&◌, List, [], ◌∷◌, ◌++◌, length, take, drop, get_or,
+  filter, All, Ordering, refl, sym, ap, ◌∙◌, inl, inr, arith,
+}
+use Rattle.std.proofs.lemmas.List.{
+  get_or-drop, get_or-take, length-drop, length-take, take-append-drop, drop-drop, append-nil,
+}
 use Rattle.std.proofs.lemmas.List.Elements.{filter-append, filter_agree, All-nil, All-tail, All-head}
 use Rattle.std.proofs.lemmas.List.Sorted.{ranks_by, sorted_far}
 use Rattle.std.proofs.lemmas.List.Sums.{prefix_len-drop_no, prefix_len-drop_yes}
@@ -16,13 +21,17 @@ use Rattle.geom_core.specs.EdgeSum.{same_point}
 use Rattle.geom_core.specs.Order.{is_before, point_cmp}
 use Rattle.half_mesh.specs.declared.incidences.Incidence.{Incidence}
 use Rattle.half_mesh.specs.Incidences.{is_at, at_point, IsByPoint}
-use Rattle.geom_core.proofs.PointLaws.{true≢false, not_both, before-from_is_before, is_before-trans, point_cmp-total, same_point-is, same_point-before, same_point-after, same_point-refl, is_before-itself, placed}
+use Rattle.geom_core.proofs.PointLaws.{
+  true≢false, not_both, before-from_is_before, is_before-trans, point_cmp-total, same_point-is, same_point-before,
+  same_point-after, same_point-refl, is_before-itself, placed,
+}
 use Rattle.geom_core.proofs.PointLaws.Placed.{Before, Same, After}
 
 pub filter-all : {X : Type 0} (p : X → Bool) (xs : List X) → All (λ x. p x ≡ true) xs → filter p xs ≡ xs
 filter-all p [] all = refl
 filter-all {X} p (x ∷ xs) all =
-    rw (All-head (λ (x : X). p x ≡ true) x xs all) (ap (λ rest. x ∷ rest) (filter-all p xs (All-tail (λ (x : X). p x ≡ true) x xs all)))
+    rw (All-head (λ (x : X). p x ≡ true) x xs all)
+        (ap (λ rest. x ∷ rest) (filter-all p xs (All-tail (λ (x : X). p x ≡ true) x xs all)))
 
 pub filter-no : {X : Type 0} (p : X → Bool) (xs : List X) → All (λ x. p x ≡ false) xs → filter p xs ≡ []
 filter-no p [] all = refl
@@ -40,12 +49,14 @@ not_apart p q = rw (same_point-is q p, point_cmp-total.antisymm p q) (apart (poi
 
 -- a stable sort by point keeps the incidences at a point as they stand
 pub at_point-stable : {T : Type 0} (xs ys : List (Incidence T)) → length ys ≡ length xs →
-    IsStableByKey (λ (incidence : Incidence T). incidence.point) point_cmp xs ys → (p : Pt) → at_point p ys ≡ at_point p xs
+    IsStableByKey (λ (incidence : Incidence T). incidence.point) point_cmp xs ys → (p : Pt) →
+    at_point p ys ≡ at_point p xs
 at_point-stable [] [] same stable p = refl
 at_point-stable [] (y ∷ ys) same stable p = absurd (omega arith)
 at_point-stable {T} (x ∷ xs) ys same stable p =
     let here : Incidence T = record x { point = p } in
-    let agree : (incidence : Incidence T) → is_at p incidence ≡ ties (λ (m n : Incidence T). is_lt (point_cmp m.point n.point)) here incidence =
+    let agree : (incidence : Incidence T) → is_at p incidence ≡ ties
+        (λ (m n : Incidence T). is_lt (point_cmp m.point n.point)) here incidence =
     λ incidence. sym (not_apart p incidence.point) in
     filter_agree (is_at p) (ties (λ (m n : Incidence T). is_lt (point_cmp m.point n.point)) here) agree ys ∙
     stable here ∙
@@ -55,17 +66,21 @@ by_point : {T : Type 0} → IsStrictWeakOrder (λ (m n : Incidence T). is_lt (po
 by_point {T} = ranks_by point_cmp-total (λ (incidence : Incidence T). incidence.point)
 
 -- in sorted incidences none lies before an earlier one
-pub sorted_later : {T : Type 0} (incidences : List (Incidence T)) → IsByPoint incidences → (i j : ℕ) (d : Incidence T) → i ≤ j →
+pub sorted_later : {T : Type 0} (incidences : List (Incidence T)) → IsByPoint incidences → (i j : ℕ) (d : Incidence T) →
+    i ≤ j →
     j < length incidences → is_before (get_or incidences j d).point (get_or incidences i d).point ≡ false
 sorted_later {T} incidences sorted i j d upto in_bounds =
-    sorted_far (λ (m n : Incidence T). is_lt (point_cmp m.point n.point)) by_point incidences sorted i j d upto in_bounds
+    sorted_far (λ (m n : Incidence T). is_lt (point_cmp m.point n.point)) by_point incidences sorted i j d upto
+        in_bounds
 
-pub IsByPoint-drop : {T : Type 0} (n : ℕ) (incidences : List (Incidence T)) → IsByPoint incidences → IsByPoint (drop n incidences)
+pub IsByPoint-drop : {T : Type 0} (n : ℕ) (incidences : List (Incidence T)) → IsByPoint incidences →
+    IsByPoint (drop n incidences)
 IsByPoint-drop n incidences sorted k d low high =
     let short : k + 1 < length incidences - n = rw (length-drop n incidences) at high in
     let in_bounds : (n + k) + 1 < length incidences = omega arith in
     let next : n + (k + 1) ≡ (n + k) + 1 = omega arith in
-    rw (get_or-drop n incidences (k + 1) d, get_or-drop n incidences k d, next) (sorted (n + k) d (omega arith) in_bounds)
+    rw (get_or-drop n incidences (k + 1) d, get_or-drop n incidences k d, next)
+        (sorted (n + k) d (omega arith) in_bounds)
 
 -- the point isn't after p
 abbrev pub is_upto : {T : Type 0} → Pt → Incidence T → Bool
@@ -110,8 +125,10 @@ partitioned_upto {T} p incidences sorted i j d upto in_bounds before =
 
 -- the incidences between the two places are those at p
 pub range_is : {T : Type 0} (p : Pt) (incidences : List (Incidence T)) (from to : ℕ) →
-    IsPartitionPoint (λ (incidence : Incidence T). is_before incidence.point p ≡ true) (λ incidence. is_before incidence.point p ≡ false) incidences from →
-    IsPartitionPoint (λ (incidence : Incidence T). is_upto p incidence ≡ true) (λ incidence. is_upto p incidence ≡ false) incidences to →
+    IsPartitionPoint (λ (incidence : Incidence T). is_before incidence.point p ≡ true)
+    (λ incidence. is_before incidence.point p ≡ false) incidences from →
+    IsPartitionPoint (λ (incidence : Incidence T). is_upto p incidence ≡ true)
+    (λ incidence. is_upto p incidence ≡ false) incidences to →
     from ≤ length incidences → to ≤ length incidences →
     (from ≤ to) × (take (to - from) (drop from incidences) ≡ at_point p incidences)
 range_is {T} p incidences from to low high from_in to_in = (ordered incidences low high from_in, group)
@@ -120,12 +137,15 @@ range_is {T} p incidences from to low high from_in to_in = (ordered incidences l
     upto_before q h = ap is_le (before-from_is_before q p h)
 
     ordered : (incidences : List (Incidence T)) →
-        IsPartitionPoint (λ (incidence : Incidence T). is_before incidence.point p ≡ true) (λ incidence. is_before incidence.point p ≡ false) incidences from →
-        IsPartitionPoint (λ (incidence : Incidence T). is_upto p incidence ≡ true) (λ incidence. is_upto p incidence ≡ false) incidences to →
+        IsPartitionPoint (λ (incidence : Incidence T). is_before incidence.point p ≡ true)
+        (λ incidence. is_before incidence.point p ≡ false) incidences from →
+        IsPartitionPoint (λ (incidence : Incidence T). is_upto p incidence ≡ true)
+        (λ incidence. is_upto p incidence ≡ false) incidences to →
         from ≤ length incidences → from ≤ to
     ordered [] low high from_in = omega arith
     ordered (m ∷ ms) low high from_in = elim (cases_lt to from) [
-      | inl h ↦ absurd (true≢false (sym (upto_before _ (low.0 to m (omega arith) h)) ∙ high.1 to m (omega arith) (omega arith)))
+      | inl h ↦ absurd (true≢false (sym (upto_before _ (low.0 to m (omega arith) h)) ∙
+          high.1 to m (omega arith) (omega arith)))
       | inr h ↦ h
     ]
 
@@ -167,10 +187,12 @@ range_is {T} p incidences from to low high from_in to_in = (ordered incidences l
     parts : incidences ≡ take from incidences ++ (take (to - from) (drop from incidences) ++ drop to incidences)
     parts =
         let sum : from + (to - from) ≡ to = omega (arith, between) in
-        let rest : drop (to - from) (drop from incidences) ≡ drop to incidences = drop-drop (to - from) from incidences ∙ ap (λ n. drop n incidences) sum in
+        let rest : drop (to - from) (drop from incidences) ≡ drop to incidences =
+            drop-drop (to - from) from incidences ∙ ap (λ n. drop n incidences) sum in
         sym (take-append-drop from incidences) ∙
         ap (λ l. take from incidences ++ l)
-        (sym (take-append-drop (to - from) (drop from incidences)) ∙ ap (λ l. take (to - from) (drop from incidences) ++ l) rest)
+        (sym (take-append-drop (to - from) (drop from incidences)) ∙
+            ap (λ l. take (to - from) (drop from incidences) ++ l) rest)
 
     group : take (to - from) (drop from incidences) ≡ at_point p incidences
     group = sym (
@@ -178,5 +200,6 @@ range_is {T} p incidences from to low high from_in to_in = (ordered incidences l
         filter-append (is_at p) (take from incidences) (take (to - from) (drop from incidences) ++ drop to incidences) ∙
         rw (filter-no (is_at p) (take from incidences) front)
         (filter-append (is_at p) (take (to - from) (drop from incidences)) (drop to incidences) ∙
-        rw (filter-all (is_at p) (take (to - from) (drop from incidences)) middle, filter-no (is_at p) (drop to incidences) back)
+        rw (filter-all (is_at p) (take (to - from) (drop from incidences)) middle,
+            filter-no (is_at p) (drop to incidences) back)
         (append-nil (take (to - from) (drop from incidences)))))

@@ -1,5 +1,9 @@
 -- Rims as functions of edges: the sums that a rim has, and the rim that has given sums.
-use Rattle.std.proofs.Common.{◌≡◌, ◌≢◌, ℕ, zero, suc, ◌+◌, ◌<◌, ◌≤◌, Bool, true, false, ◌&&◌, ◌||◌, ℤ, pos, ◌+ℤ◌, ◌-ℤ◌, neg_ℤ, List, [], ◌∷◌, ◌++◌, length, take, get_or, map, flat_map, All, Contains, ◌↔◌, cond, Ordering, FitsSigned, w32, refl, sym, ap, ◌∙◌, subst, arith}
+use Rattle.std.proofs.Common.{
+  ◌≡◌, ◌≢◌, ℕ, zero, suc, ◌+◌, ◌<◌, ◌≤◌, Bool, true, false, ◌&&◌, ◌||◌, ℤ, pos, ◌+ℤ◌, ◌-ℤ◌, neg_ℤ, List, [], ◌∷◌, ◌++◌,
+  length, take, get_or, map, flat_map, All, Contains, ◌↔◌, cond, Ordering, FitsSigned, w32, refl, sym, ap, ◌∙◌, subst,
+  arith,
+}
 use Rattle.std.proofs.lemmas.Int.{ints, int_wrap_fits}
 use Rattle.std.proofs.lemmas.Cmp.{eq_by_cmp_equiv}
 use Rattle.std.proofs.lemmas.List.{append-nil, take_all, get_or_default}
@@ -20,8 +24,13 @@ use Rattle.geom_core.specs.declared.points.Pt.{Pt}
 use Rattle.geom_core.specs.declared.triangles.Tri.{Tri}
 use Rattle.geom_core.specs.EdgeSum.{same_point, edges_of, edge_count, edge_sum, is_rim_edge, OnRim}
 use Rattle.geom_core.specs.Order.{is_before, point_cmp}
-use Rattle.geom_core.proofs.EdgeSumLaws.{edge_sum-none, edge_sum-append, edge_sum-first, edge_count-one, edge_sum-same, edge_sum-turned, is_rim_edge-turned}
-use Rattle.geom_core.proofs.PointLaws.{true≢false, point_cmp-total, derived_eq, derived_eq-is, same_point-is, same_point-from, before-from_is_before, is_before-itself, not_both, placed}
+use Rattle.geom_core.proofs.EdgeSumLaws.{
+  edge_sum-none, edge_sum-append, edge_sum-first, edge_count-one, edge_sum-same, edge_sum-turned, is_rim_edge-turned,
+}
+use Rattle.geom_core.proofs.PointLaws.{
+  true≢false, point_cmp-total, derived_eq, derived_eq-is, same_point-is, same_point-from, before-from_is_before,
+  is_before-itself, not_both, placed,
+}
 use Rattle.geom_core.proofs.PointLaws.Placed.{Before, Same, After}
 use Rattle.geom_core.specs.Limits.{HasGridCorners, IsGridPoint, is_grid_point}
 use Rattle.geom_core.specs.Corners.{has_corner, IsCornerIn}
@@ -29,9 +38,17 @@ use Rattle.geom_core.proofs.CollapseCorners.{at_corner}
 use Rattle.half_mesh.specs.declared.edges.Edge.{Edge}
 use Rattle.half_mesh.specs.declared.terms.EdgeTerm.{EdgeTerm}
 use Rattle.half_mesh.specs.Order.{edge_cmp}
-use Rattle.half_mesh.specs.Rim.{EdgeSums, edge_sums, IsAscending, IsRim, IsRimEdge, IsRimOf, sum_on, same_edge, sum_in, sum_in_all, HaveSmallSums, AreRimsOf, all_of, ends_of}
-use Rattle.half_mesh.specs.Terms.{edge_of, term, total_at, term_of, terms_of, terms_in, terms_in_all, AddUpAlike, IsSumOf}
-use Rattle.half_mesh.proofs.EdgeLaws.{edge_cmp-total, edge_from_equal, derived_edge_eq, derived_edge_eq-is, same_edge-from, same_edge-itself, same_edge-before, same_edge-after, rim_edge-from, rim_edge-some, zero_unless, edge_sum-fits}
+use Rattle.half_mesh.specs.Rim.{
+  EdgeSums, edge_sums, IsAscending, IsRim, IsRimEdge, IsRimOf, sum_on, same_edge, sum_in, sum_in_all, HaveSmallSums,
+  AreRimsOf, all_of, ends_of,
+}
+use Rattle.half_mesh.specs.Terms.{
+  edge_of, term, total_at, term_of, terms_of, terms_in, terms_in_all, AddUpAlike, IsSumOf,
+}
+use Rattle.half_mesh.proofs.EdgeLaws.{
+  edge_cmp-total, edge_from_equal, derived_edge_eq, derived_edge_eq-is, same_edge-from, same_edge-itself,
+  same_edge-before, same_edge-after, rim_edge-from, rim_edge-some, zero_unless, edge_sum-fits,
+}
 use Rattle.half_mesh.proofs.TermLaws.{total_at-append, total_at-one}
 
 add_nothing : (a : ℤ) → a +ℤ pos 0 ≡ a
@@ -42,7 +59,8 @@ nothing_added a = omega (arith, ints)
 
 -- ---- the sum of an edge among edges with sums
 
-pub sum_in-terms : (e : Edge) (edges : List Edge) (sums : List ℤ) → total_at e (terms_in edges sums) ≡ sum_in e edges sums
+pub sum_in-terms : (e : Edge) (edges : List Edge) (sums : List ℤ) →
+    total_at e (terms_in edges sums) ≡ sum_in e edges sums
 unfolding total_at terms_in sum_in
 sum_in-terms e [] sums = refl
 sum_in-terms e (f ∷ edges) [] = refl
@@ -62,7 +80,8 @@ sum_in-absent e [] sums none = refl
 sum_in-absent e (f ∷ edges) [] none = refl
 sum_in-absent e (f ∷ edges) (sum ∷ sums) none =
     rw (All-head (λ f. same_edge f e ≡ false) f edges none)
-    (nothing_added (sum_in e edges sums) ∙ sum_in-absent e edges sums (All-tail (λ f. same_edge f e ≡ false) f edges none))
+    (nothing_added (sum_in e edges sums) ∙ sum_in-absent e edges sums
+        (All-tail (λ f. same_edge f e ≡ false) f edges none))
 
 pub sum_in-contains : (e : Edge) (edges : List Edge) (sums : List ℤ) → sum_in e edges sums ≢ pos 0 → Contains edges e
 unfolding sum_in
@@ -88,7 +107,8 @@ first_sum : (e : Edge) (edges : List Edge) (sum : ℤ) (sums : List ℤ) → IsA
 unfolding sum_in
 first_sum e edges sum sums ascending =
     rw (same_edge-itself e)
-    (ap (λ z. sum +ℤ z) (sum_in-absent e edges sums (λ k d in_bounds. same_edge-after (get_or edges k d) e (ascending_first e edges ascending k d in_bounds))) ∙
+    (ap (λ z. sum +ℤ z) (sum_in-absent e edges sums
+        (λ k d in_bounds. same_edge-after (get_or edges k d) e (ascending_first e edges ascending k d in_bounds))) ∙
     add_nothing sum)
 
 later_sum : (e f : Edge) (edges : List Edge) (sum : ℤ) (sums : List ℤ) → edge_cmp f e ≡ Less →
@@ -104,7 +124,8 @@ sums-map [] (sum ∷ sums) ascending same f all = absurd (omega arith)
 sums-map (e ∷ edges) [] ascending same f all = absurd (omega arith)
 sums-map (e ∷ edges) (sum ∷ sums) ascending same f all =
     ap (λ z. z ∷ sums)
-    (sym (first_sum e edges sum sums ascending) ∙ All-head (λ e2. sum_in e2 (e ∷ edges) (sum ∷ sums) ≡ f e2) e edges all) ∙
+    (sym (first_sum e edges sum sums ascending) ∙
+        All-head (λ e2. sum_in e2 (e ∷ edges) (sum ∷ sums) ≡ f e2) e edges all) ∙
     ap (λ l. f e ∷ l) (sums-map edges sums (ascending_rest e edges ascending) (omega arith) f rest)
   where
     rest : All (λ g. sum_in g edges sums ≡ f g) edges
@@ -113,7 +134,8 @@ sums-map (e ∷ edges) (sum ∷ sums) ascending same f all =
         all (suc k) d (omega arith)
 
 -- an edge of a rim has a sum that isn't 0
-some_sums : (edges : List Edge) (sums : List ℤ) → IsAscending edges → length sums ≡ length edges → All (λ sum. sum ≢ pos 0) sums →
+some_sums : (edges : List Edge) (sums : List ℤ) → IsAscending edges → length sums ≡ length edges →
+    All (λ sum. sum ≢ pos 0) sums →
     All (λ e. sum_in e edges sums ≢ pos 0) edges
 some_sums [] sums ascending same some k d in_bounds = absurd (omega arith)
 some_sums (e ∷ edges) [] ascending same some k d in_bounds = absurd (omega arith)
@@ -121,7 +143,8 @@ some_sums (e ∷ edges) (sum ∷ sums) ascending same some zero d in_bounds =
     λ none. All-head (λ z. z ≢ pos 0) sum sums some (sym (first_sum e edges sum sums ascending) ∙ none)
 some_sums (e ∷ edges) (sum ∷ sums) ascending same some (suc k) d in_bounds =
     let there : k < length edges = omega arith in
-    λ none. some_sums edges sums (ascending_rest e edges ascending) (omega arith) (All-tail (λ z. z ≢ pos 0) sum sums some) k d there
+    λ none. some_sums edges sums (ascending_rest e edges ascending) (omega arith)
+        (All-tail (λ z. z ≢ pos 0) sum sums some) k d there
     (sym (later_sum (get_or edges k d) e edges sum sums (ascending_first e edges ascending k d there)) ∙ none)
 
 -- ---- two rims with the same sums are one
@@ -157,14 +180,17 @@ same_rim [] [] [] (y ∷ more) one other alike = absurd (let h = other.one_each 
 same_rim [] (f ∷ others) [] [] one other alike = absurd (let h = other.one_each in omega arith)
 same_rim [] (f ∷ others) [] (y ∷ more) one other alike =
     absurd (All-head (λ z. z ≢ pos 0) y more other.some
-    (sym (first_sum f others y more other.ascending) ∙ sym (alike f) ∙ sum_in-absent f [] [] (All-nil (λ g. same_edge g f ≡ false))))
+    (sym (first_sum f others y more other.ascending) ∙ sym (alike f) ∙
+        sum_in-absent f [] [] (All-nil (λ g. same_edge g f ≡ false))))
 same_rim (e ∷ edges) others [] more one other alike = absurd (let h = one.one_each in omega arith)
 same_rim (e ∷ edges) [] (x ∷ sums) (y ∷ more) one other alike = absurd (let h = other.one_each in omega arith)
 same_rim (e ∷ edges) [] (x ∷ sums) [] one other alike =
     absurd (All-head (λ z. z ≢ pos 0) x sums one.some
-    (sym (first_sum e edges x sums one.ascending) ∙ alike e ∙ sum_in-absent e [] [] (All-nil (λ g. same_edge g e ≡ false))))
+    (sym (first_sum e edges x sums one.ascending) ∙ alike e ∙
+        sum_in-absent e [] [] (All-nil (λ g. same_edge g e ≡ false))))
 same_rim (e ∷ edges) (f ∷ others) (x ∷ sums) [] one other alike = absurd (let h = other.one_each in omega arith)
-same_rim (e ∷ edges) (f ∷ others) (x ∷ sums) (y ∷ more) one other alike = by (same_rim edges others sums more) (edge_cmp e f) refl
+same_rim (e ∷ edges) (f ∷ others) (x ∷ sums) (y ∷ more) one other alike =
+    by (same_rim edges others sums more) (edge_cmp e f) refl
   where
     x_some : x ≢ pos 0
     x_some = All-head (λ z. z ≢ pos 0) x sums one.some
@@ -172,10 +198,12 @@ same_rim (e ∷ edges) (f ∷ others) (x ∷ sums) (y ∷ more) one other alike 
     y_some : y ≢ pos 0
     y_some = All-head (λ z. z ≢ pos 0) y more other.some
 
-    by : (IsRim edges sums → IsRim others more → ((g : Edge) → sum_in g edges sums ≡ sum_in g others more) → (edges ≡ others) × (sums ≡ more)) →
+    by : (IsRim edges sums → IsRim others more → ((g : Edge) → sum_in g edges sums ≡ sum_in g others more) →
+        (edges ≡ others) × (sums ≡ more)) →
         (o : Ordering) → edge_cmp e f ≡ o → (e ∷ edges ≡ f ∷ others) × (x ∷ sums ≡ y ∷ more)
     by rest_same Less is =
-        absurd (x_some (sym (first_sum e edges x sums one.ascending) ∙ alike e ∙ none_earlier e f others (y ∷ more) other.ascending is))
+        absurd (x_some (sym (first_sum e edges x sums one.ascending) ∙ alike e ∙
+            none_earlier e f others (y ∷ more) other.ascending is))
     by rest_same Greater is =
         absurd (y_some (sym (first_sum f others y more other.ascending) ∙ sym (alike f) ∙
         none_earlier f e edges (x ∷ sums) one.ascending (edge_cmp-total.antisymm f e ∙ ap ordering_reverse is)))
@@ -186,10 +214,13 @@ same_rim (e ∷ edges) (f ∷ others) (x ∷ sums) (y ∷ more) one other alike 
             let ascends : IsAscending (e ∷ others) = subst (λ g. IsAscending (g ∷ others)) (sym here) other.ascending in
             let alike_e : (g : Edge) → sum_in g (e ∷ edges) (x ∷ sums) ≡ sum_in g (e ∷ others) (y ∷ more) =
             λ g. alike g ∙ ap (λ h. sum_in g (h ∷ others) (y ∷ more)) (sym here) in
-            let same : x ≡ y = sym (first_sum e edges x sums one.ascending) ∙ alike_e e ∙ first_sum e others y more ascends in
+            let same : x ≡ y =
+                sym (first_sum e edges x sums one.ascending) ∙ alike_e e ∙ first_sum e others y more ascends in
             let rest = rest_same
-            (record { ascending = ascending_rest e edges one.ascending; one_each = (let h = one.one_each in omega arith); some = All-tail (λ z. z ≢ pos 0) x sums one.some })
-            (record { ascending = ascending_rest e others ascends; one_each = (let h = other.one_each in omega arith); some = All-tail (λ z. z ≢ pos 0) y more other.some })
+            (record { ascending = ascending_rest e edges one.ascending; one_each =
+                (let h = one.one_each in omega arith); some = All-tail (λ z. z ≢ pos 0) x sums one.some })
+            (record { ascending = ascending_rest e others ascends; one_each =
+                (let h = other.one_each in omega arith); some = All-tail (λ z. z ≢ pos 0) y more other.some })
             (rest_alike e edges others x sums more one.ascending ascends
             (λ g. alike_e g ∙ ap (λ z. sum_in g (e ∷ others) (z ∷ more)) (sym same))) in
             (ap (λ h. h ∷ edges) here ∙ ap (λ l. f ∷ l) rest.0, ap (λ z. z ∷ sums) same ∙ ap (λ l. y ∷ l) rest.1)
@@ -258,18 +289,23 @@ sum_of_map : (f : Edge → ℤ) (edges : List Edge) → IsAscending edges → (e
     sum_in e edges (map f edges) ≡ f e
 sum_of_map f [] ascending e (k, in_bounds, here) = absurd (omega arith)
 sum_of_map f (g ∷ edges) ascending e (zero, in_bounds, here) =
-    ap (λ h. sum_in h (g ∷ edges) (f g ∷ map f edges)) (sym here) ∙ first_sum g edges (f g) (map f edges) ascending ∙ ap f here
+    ap (λ h. sum_in h (g ∷ edges) (f g ∷ map f edges)) (sym here) ∙ first_sum g edges (f g) (map f edges) ascending ∙
+        ap f here
 sum_of_map f (g ∷ edges) ascending e (suc k, in_bounds, here) =
     let there : k < length edges = omega arith in
-    let before : edge_cmp g e ≡ Less = ap (λ h. edge_cmp g h) (sym here) ∙ ascending_first g edges ascending k e there in
-    later_sum e g edges (f g) (map f edges) before ∙ sum_of_map f edges (ascending_rest g edges ascending) e (k, there, here)
+    let before : edge_cmp g e ≡ Less =
+        ap (λ h. edge_cmp g h) (sym here) ∙ ascending_first g edges ascending k e there in
+    later_sum e g edges (f g) (map f edges) before ∙
+        sum_of_map f edges (ascending_rest g edges ascending) e (k, there, here)
 
 pub sums_from_rim : (tris : List Tri) (edges : List Edge) (sums : List ℤ) → IsRimOf tris edges sums →
     (e : Edge) → sum_in e edges sums ≡ sum_ahead tris e
 sums_from_rim tris edges sums rim e = ap (sum_in e edges) rim.summed ∙ by (is_before e.u e.v) refl
   where
     absent : (Contains edges e → ⊥) → sum_in e edges (map (sum_on tris) edges) ≡ pos 0
-    absent out = zero_unless (sum_in e edges (map (sum_on tris) edges)) (λ some. out (sum_in-contains e edges (map (sum_on tris) edges) some))
+    absent out =
+        zero_unless (sum_in e edges (map (sum_on tris) edges))
+        (λ some. out (sum_in-contains e edges (map (sum_on tris) edges) some))
 
     wanted : Contains edges e → IsRimEdge tris e
     wanted (k, in_bounds, here) = subst (IsRimEdge tris) here (rim.sound k e in_bounds)
@@ -278,11 +314,14 @@ sums_from_rim tris edges sums rim e = ap (sum_in e edges) rim.summed ∙ by (is_
     by false upto = absent (λ there. true≢false (sym (is_before-from e.u e.v (wanted there).0) ∙ upto)) ∙ rw upto refl
     by true before = rw before (on (is_rim_edge tris e.u e.v) refl)
       where
-        on : (b : Bool) → is_rim_edge tris e.u e.v ≡ b → sum_in e edges (map (sum_on tris) edges) ≡ edge_sum tris e.u e.v
-        on true some = sum_of_map (sum_on tris) edges rim.ascending e (rim.complete e (before-from_is_before e.u e.v before, some))
+        on : (b : Bool) → is_rim_edge tris e.u e.v ≡ b →
+            sum_in e edges (map (sum_on tris) edges) ≡ edge_sum tris e.u e.v
+        on true some =
+            sum_of_map (sum_on tris) edges rim.ascending e (rim.complete e (before-from_is_before e.u e.v before, some))
         on false none =
             absent (λ there. true≢false (sym (wanted there).1 ∙ none)) ∙
-            sym (zero_unless (edge_sum tris e.u e.v) (λ some. true≢false (sym (rim_edge-from tris e.u e.v some) ∙ none)))
+            sym (zero_unless (edge_sum tris e.u e.v)
+                (λ some. true≢false (sym (rim_edge-from tris e.u e.v some) ∙ none)))
 
 -- two lists have the same rim where their sums agree
 pub same_rim-from : (tris others : List Tri) (edges : List Edge) (sums : List ℤ) (edges2 : List Edge) (sums2 : List ℤ) →
@@ -299,7 +338,8 @@ pub sums_agree : (tris others : List Tri) (edges : List Edge) (sums : List ℤ) 
 sums_agree tris others edges sums one other u v = elim (placed u v) [
   | Before h ↦ ahead u v h
   | Same h ↦
-      ap (λ w. edge_sum tris u w) (sym h) ∙ edge_sum-same tris u ∙ sym (edge_sum-same others u) ∙ ap (λ w. edge_sum others u w) h
+      ap (λ w. edge_sum tris u w) (sym h) ∙ edge_sum-same tris u ∙ sym (edge_sum-same others u) ∙
+          ap (λ w. edge_sum others u w) h
   | After h ↦ edge_sum-turned tris v u ∙ ap neg_ℤ (ahead v u h) ∙ sym (edge_sum-turned others v u)
 ]
   where
@@ -326,7 +366,8 @@ turned-false p q x y before ahead = both-false (same_point p y) (same_point q x)
     ap (λ w. is_before y w) (same_point-from q x second) ∙ not_both x y ahead))
 
 -- points in order aren't two that aren't
-unordered-false : (p q x y : Pt) → is_before p q ≡ true → is_before x y ≡ false → same_point p x && same_point q y ≡ false
+unordered-false : (p q x y : Pt) → is_before p q ≡ true → is_before x y ≡ false →
+    same_point p x && same_point q y ≡ false
 unordered-false p q x y before upto = both-false (same_point p x) (same_point q y)
     (λ first second. true≢false (sym before ∙ ap (λ w. is_before w q) (same_point-from p x first) ∙
     ap (λ w. is_before x w) (same_point-from q y second) ∙ upto))
@@ -345,7 +386,8 @@ and-turned false false = refl
 
 -- a directed edge counts 1 along it, and -1 against it
 term_of-sum : (e : Edge) (u v : Pt) → is_before e.u e.v ≡ true →
-    total_at e (term_of (u, v)) ≡ one_if (same_point u e.u && same_point v e.v) -ℤ one_if (same_point u e.v && same_point v e.u)
+    total_at e (term_of (u, v)) ≡ one_if (same_point u e.u && same_point v e.v) -ℤ one_if
+    (same_point u e.v && same_point v e.u)
 unfolding term_of total_at
 term_of-sum e u v before = elim (placed u v) [
   | Before h ↦
@@ -353,12 +395,15 @@ term_of-sum e u v before = elim (placed u v) [
       (total_at-one e (term (edge_of u v) (pos 1)) ∙ along (same_point u e.u && same_point v e.v))
   | Same h ↦ subst (λ w. Adds u w) h same
   | After h ↦
-      rw (not_both v u h, h, and-turned (same_point u e.u) (same_point v e.v), turned-false v u e.u e.v h before, and-turned (same_point u e.v) (same_point v e.u))
+      rw (not_both v u h, h, and-turned (same_point u e.u) (same_point v e.v), turned-false v u e.u e.v h before,
+          and-turned (same_point u e.v) (same_point v e.u))
       (total_at-one e (term (edge_of v u) (neg_ℤ (pos 1))) ∙ back (same_point v e.u && same_point u e.v))
 ]
   where
     Adds : Pt → Pt → Type 0
-    Adds u v = total_at e (cond (is_before u v) (term (edge_of u v) (pos 1) ∷ []) (cond (is_before v u) (term (edge_of v u) (neg_ℤ (pos 1)) ∷ []) [])) ≡
+    Adds u v =
+        total_at e (cond (is_before u v) (term (edge_of u v) (pos 1) ∷ [])
+        (cond (is_before v u) (term (edge_of v u) (neg_ℤ (pos 1)) ∷ []) [])) ≡
         one_if (same_point u e.u && same_point v e.v) -ℤ one_if (same_point u e.v && same_point v e.u)
 
     same : Adds u u
@@ -379,16 +424,20 @@ term_of-none e u v upto = elim (placed u v) [
       rw h (total_at-one e (term (edge_of u v) (pos 1)) ∙ rw (unordered-false u v e.u e.v h upto) refl)
   | Same h ↦ subst (λ w. None u w) h same
   | After h ↦
-      rw (not_both v u h, h) (total_at-one e (term (edge_of v u) (neg_ℤ (pos 1))) ∙ rw (unordered-false v u e.u e.v h upto) refl)
+      rw (not_both v u h, h) (total_at-one e (term (edge_of v u) (neg_ℤ (pos 1))) ∙
+          rw (unordered-false v u e.u e.v h upto) refl)
 ]
   where
     None : Pt → Pt → Type 0
-    None u v = total_at e (cond (is_before u v) (term (edge_of u v) (pos 1) ∷ []) (cond (is_before v u) (term (edge_of v u) (neg_ℤ (pos 1)) ∷ []) [])) ≡ pos 0
+    None u v =
+        total_at e (cond (is_before u v) (term (edge_of u v) (pos 1) ∷ [])
+        (cond (is_before v u) (term (edge_of v u) (neg_ℤ (pos 1)) ∷ []) [])) ≡ pos 0
 
     same : None u u
     same = rw (is_before-itself u) refl
 
-three : (e : Edge) (a b c : List EdgeTerm) → total_at e (a ++ (b ++ (c ++ []))) ≡ total_at e a +ℤ (total_at e b +ℤ total_at e c)
+three : (e : Edge) (a b c : List EdgeTerm) →
+    total_at e (a ++ (b ++ (c ++ []))) ≡ total_at e a +ℤ (total_at e b +ℤ total_at e c)
 three e a b c =
     total_at-append e a (b ++ (c ++ [])) ∙
     ap (λ z. total_at e a +ℤ z) (total_at-append e b (c ++ []) ∙ ap (λ l. total_at e b +ℤ total_at e l) (append-nil c))
@@ -397,12 +446,14 @@ terms_of-sum : (e : Edge) (t : Tri) → is_before e.u e.v ≡ true → total_at 
 unfolding terms_of edges_of edge_sum
 terms_of-sum e t before =
     three e (term_of (t.a, t.b)) (term_of (t.b, t.c)) (term_of (t.c, t.a)) ∙
-    rw (term_of-sum e t.a t.b before, term_of-sum e t.b t.c before, term_of-sum e t.c t.a before, edge_count-one t e.u e.v, edge_count-one t e.v e.u)
+    rw (term_of-sum e t.a t.b before, term_of-sum e t.b t.c before, term_of-sum e t.c t.a before,
+        edge_count-one t e.u e.v, edge_count-one t e.v e.u)
     (added (cond (same_point t.a e.u && same_point t.b e.v) 1 0) (cond (same_point t.b e.u && same_point t.c e.v) 1 0)
     (cond (same_point t.c e.u && same_point t.a e.v) 1 0) (cond (same_point t.a e.v && same_point t.b e.u) 1 0)
     (cond (same_point t.b e.v && same_point t.c e.u) 1 0) (cond (same_point t.c e.v && same_point t.a e.u) 1 0))
   where
-    added : (a b c x y z : ℕ) → (pos a -ℤ pos x) +ℤ ((pos b -ℤ pos y) +ℤ (pos c -ℤ pos z)) ≡ pos (a + b + c) -ℤ pos (x + y + z)
+    added : (a b c x y z : ℕ) → (pos a -ℤ pos x) +ℤ ((pos b -ℤ pos y) +ℤ (pos c -ℤ pos z)) ≡ pos (a + b + c) -ℤ pos
+        (x + y + z)
     added a b c x y z = omega (arith, ints)
 
 terms_of-none : (e : Edge) (t : Tri) → is_before e.u e.v ≡ false → total_at e (terms_of t) ≡ pos 0
@@ -432,7 +483,8 @@ all_terms-sum e tris = by (is_before e.u e.v) refl
     by true before = ahead before tris ∙ rw before refl
     by false upto = nothing upto tris ∙ rw upto refl
 
-pub sum_ahead-fits : (tris : List Tri) (e : Edge) → length tris ≤ MAX_SUMMED_TRIANGLES → FitsSigned w32 (sum_ahead tris e)
+pub sum_ahead-fits : (tris : List Tri) (e : Edge) → length tris ≤ MAX_SUMMED_TRIANGLES →
+    FitsSigned w32 (sum_ahead tris e)
 sum_ahead-fits tris e few = by (is_before e.u e.v) refl
   where
     by : (b : Bool) → is_before e.u e.v ≡ b → FitsSigned w32 (sum_ahead tris e)
@@ -448,7 +500,8 @@ pub rim_from_terms : (tris : List Tri) (terms : List EdgeTerm) (edges : List Edg
     length tris ≤ MAX_SUMMED_TRIANGLES → IsRimOf tris edges sums
 rim_from_terms tris terms edges sums rim total alike few =
     rim_from_sums tris edges sums rim
-    (λ e. total e ∙ alike e ∙ ap (int_wrap w32) (all_terms-sum e tris) ∙ int_wrap_fits w32 (sum_ahead tris e) (sum_ahead-fits tris e few))
+    (λ e. total e ∙ alike e ∙ ap (int_wrap w32) (all_terms-sum e tris) ∙
+        int_wrap_fits w32 (sum_ahead tris e) (sum_ahead-fits tris e few))
 
 -- ---- joined rims
 
@@ -482,9 +535,11 @@ pub few_have_small_sums : (lists : List (List Tri)) (parts : List EdgeSums) → 
 few_have_small_sums lists parts are few e =
     subst (FitsSigned w32) (sym (sum_in_all-rims e lists parts are)) (sum_ahead-fits (all_of lists) e few)
 
-pub rim_from_parts : (lists : List (List Tri)) (parts : List EdgeSums) (terms : List EdgeTerm) (edges : List Edge) (sums : List ℤ) →
+pub rim_from_parts : (lists : List (List Tri)) (parts : List EdgeSums) (terms : List EdgeTerm) (edges : List Edge)
+    (sums : List ℤ) →
     HaveSmallSums parts → terms ≡ terms_in_all parts → IsRim edges sums →
-    ((e : Edge) → sum_in e edges sums ≡ int_wrap w32 (total_at e terms)) → AreRimsOf lists parts → IsRimOf (all_of lists) edges sums
+    ((e : Edge) → sum_in e edges sums ≡ int_wrap w32 (total_at e terms)) → AreRimsOf lists parts →
+    IsRimOf (all_of lists) edges sums
 rim_from_parts lists parts terms edges sums small is rim total are =
     rim_from_sums (all_of lists) edges sums rim
     (λ e. total e ∙ ap (λ l. int_wrap w32 (total_at e l)) is ∙ ap (int_wrap w32) (sum_in_all-terms e parts) ∙
@@ -512,7 +567,8 @@ on_rim-from tris [] p all (k, in_bounds, here) = absurd (omega arith)
 on_rim-from tris (f ∷ fs) p all (zero, in_bounds, here) =
     (f.v, ap (λ u. is_rim_edge tris u f.v) (sym here) ∙ (All-head (IsRimEdge tris) f fs all).1)
 on_rim-from tris (f ∷ fs) p all (suc zero, in_bounds, here) =
-    (f.u, ap (λ v. is_rim_edge tris v f.u) (sym here) ∙ is_rim_edge-turned tris f.u f.v ∙ (All-head (IsRimEdge tris) f fs all).1)
+    (f.u, ap (λ v. is_rim_edge tris v f.u) (sym here) ∙ is_rim_edge-turned tris f.u f.v ∙
+        (All-head (IsRimEdge tris) f fs all).1)
 on_rim-from tris (f ∷ fs) p all (suc (suc k), in_bounds, here) =
     on_rim-from tris fs p (All-tail (IsRimEdge tris) f fs all) (k, omega arith, here)
 
@@ -524,7 +580,8 @@ ends_on_rim tris edges sums rim p = (on_rim-from tris edges p rim.sound, back)
     back (q, some) = elim (placed p q) [
       | Before h ↦ u_among edges (edge_of p q) (rim.complete (edge_of p q) (before-from_is_before p q h, some))
       | Same h ↦ absurd (rim_edge-some tris p q some (ap (λ v. edge_sum tris p v) (sym h) ∙ edge_sum-same tris p))
-      | After h ↦ v_among edges (edge_of q p) (rim.complete (edge_of q p) (before-from_is_before q p h, is_rim_edge-turned tris p q ∙ some))
+      | After h ↦ v_among edges (edge_of q p) (rim.complete (edge_of q p)
+          (before-from_is_before q p h, is_rim_edge-turned tris p q ∙ some))
     ]
 
 -- ---- a sorted list without repeats
@@ -534,11 +591,13 @@ all_from P [] all k d in_bounds = absurd (omega arith)
 all_from P (x ∷ xs) all zero d in_bounds = all.0
 all_from P (x ∷ xs) all (suc k) d in_bounds = all_from P xs all.1 k d (omega arith)
 
-pairs_from_strict : {X : Type 0} (c : X → X → Ordering) (xs : List X) → IsStrictlySortedBy c xs → AllPairs (λ x y. c x y ≡ Less) xs
+pairs_from_strict : {X : Type 0} (c : X → X → Ordering) (xs : List X) → IsStrictlySortedBy c xs →
+    AllPairs (λ x y. c x y ≡ Less) xs
 unfolding IsStrictlySortedBy
 pairs_from_strict c [] strict = λ i j d below in_bounds. absurd (omega arith)
 pairs_from_strict {X} c (x ∷ xs) strict =
-    AllPairs-cons (λ (y z : X). c y z ≡ Less) x xs (all_from (λ (y : X). c x y ≡ Less) xs strict.0) (pairs_from_strict c xs strict.1)
+    AllPairs-cons (λ (y z : X). c y z ≡ Less) x xs (all_from (λ (y : X). c x y ≡ Less) xs strict.0)
+        (pairs_from_strict c xs strict.1)
 
 ties : (p q : Pt) → derived_eq p q ≡ is_eq (point_cmp p q)
 ties p q = derived_eq-is p q ∙ same_point-is p q
@@ -555,9 +614,12 @@ pub points_from_sorted : (ends sorted points : List Pt) → IsPermutation ends s
     IsFiltered (DiffersFromLast derived_eq) [] sorted points → ArePointsOf ends points
 points_from_sorted ends sorted points moved in_order filtered =
     rw (dedup_is derived_eq sorted points filtered) (record {
-      ascending = pairs_from_strict point_cmp (dedup derived_eq sorted) (IsStrictlySortedBy-dedup point_cmp-total ties sorted in_order);
+      ascending =
+          pairs_from_strict point_cmp (dedup derived_eq sorted)
+          (IsStrictlySortedBy-dedup point_cmp-total ties sorted in_order);
       same = λ p. (
-        λ there. Contains-permutation sorted ends p (IsPermutation-sym ends sorted moved) (Contains-from_dedup derived_eq sorted p there),
+        λ there. Contains-permutation sorted ends p (IsPermutation-sym ends sorted moved)
+            (Contains-from_dedup derived_eq sorted p there),
         λ there. Contains-dedup equivalence point-from-eq sorted p (Contains-permutation ends sorted p moved there),
       );
     })
@@ -583,8 +645,10 @@ map_all P f [] all k d in_bounds = absurd (omega arith)
 map_all P f (x ∷ xs) all zero d in_bounds = All-head (λ x. P (f x)) x xs all
 map_all P f (x ∷ xs) all (suc k) d in_bounds = map_all P f xs (All-tail (λ x. P (f x)) x xs all) k d (omega arith)
 
-pub split_is : (terms total : List EdgeTerm) (edges : List Edge) (sums : List ℤ) (i : ℕ) → IsSumOf terms total → length total ≤ i →
-    edges ≡ map (λ (t : EdgeTerm). t.edge) (take i total) → sums ≡ map (λ (t : EdgeTerm). t.sum) (take i total) → IsSplit terms edges sums
+pub split_is : (terms total : List EdgeTerm) (edges : List Edge) (sums : List ℤ) (i : ℕ) → IsSumOf terms total →
+    length total ≤ i →
+    edges ≡ map (λ (t : EdgeTerm). t.edge) (take i total) → sums ≡ map (λ (t : EdgeTerm). t.sum) (take i total) →
+    IsSplit terms edges sums
 split_is terms total edges sums i added past are_edges are_sums =
     rw (are_edges, are_sums, take_all i total past) (record {
       rim = record {
@@ -596,7 +660,8 @@ split_is terms total edges sums i added past are_edges are_sums =
       total = λ e. sum_in-map e total ∙ added.total e;
     })
   where
-    same_length : (total : List EdgeTerm) → length (map (λ (t : EdgeTerm). t.sum) total) ≡ length (map (λ (t : EdgeTerm). t.edge) total)
+    same_length : (total : List EdgeTerm) → length (map (λ (t : EdgeTerm). t.sum) total) ≡ length
+        (map (λ (t : EdgeTerm). t.edge) total)
     same_length [] = refl
     same_length (t ∷ total) = ap suc (same_length total)
 
@@ -609,7 +674,8 @@ edge_decides e f = (
 )
 
 -- what two tests in turn answer
-pub same_edges_first : (edges others : List Edge) (sums more : List ℤ) (a b : Bool) → Decides a (edges ≡ others) → Decides b (sums ≡ more) →
+pub same_edges_first : (edges others : List Edge) (sums more : List ℤ) (a b : Bool) → Decides a (edges ≡ others) →
+    Decides b (sums ≡ more) →
     a ≡ true → (b ≡ true) ↔ (edge_sums edges sums ≡ edge_sums others more)
 same_edges_first edges others sums more a b first then same = (
   λ yes. both (first.0 same) (then.0 yes),
@@ -642,7 +708,8 @@ same_where_sums_agree r one other same tris others first second = (
 pub law-rims_are_determined : (tris others : List Tri) (rim other : EdgeSums) → IsRimOf tris rim.edges rim.sums →
     IsRimOf others other.edges other.sums → (rim ≡ other) ↔ ((u v : Pt) → edge_sum tris u v ≡ edge_sum others u v)
 law-rims_are_determined tris others rim other first second = (
-  λ same. sums_agree tris others rim.edges rim.sums first (subst (λ (z : EdgeSums). IsRimOf others z.edges z.sums) (sym same) second),
+  λ same. sums_agree tris others rim.edges rim.sums first
+      (subst (λ (z : EdgeSums). IsRimOf others z.edges z.sums) (sym same) second),
   λ agree.
       let h = same_rim-from tris others rim.edges rim.sums other.edges other.sums first second agree in
       ap (λ l. edge_sums l rim.sums) h.0 ∙ ap (λ l. edge_sums other.edges l) h.1,
@@ -668,7 +735,8 @@ no_edge t p q none = by (same_point t.a p) (same_point t.b p) (same_point t.c p)
     by false true z a b c h = absurd (true≢false h)
     by false false true a b c h = absurd (true≢false h)
     by false false false a b c h =
-        rw (edge_count-one t p q, edge_count-one t q p, a, b, c, never (same_point t.a q), never (same_point t.b q), never (same_point t.c q)) refl
+        rw (edge_count-one t p q, edge_count-one t q p, a, b, c, never (same_point t.a q), never (same_point t.b q),
+            never (same_point t.c q)) refl
 
 pub corner_of : (tris : List Tri) (p q : Pt) → edge_sum tris p q ≢ pos 0 → IsCornerIn tris p
 corner_of [] p q some = absurd (some (edge_sum-none p q))

@@ -1,5 +1,9 @@
 -- Looking up edges and points in a table.
-use Rattle.std.proofs.Common.{◌≡◌, ◌≢◌, ℕ, zero, suc, ◌+◌, ◌-◌, ◌<◌, ◌≤◌, ◌^◌, Bool, true, false, ℤ, pos, ◌-ℤ◌, neg_ℤ, List, [], ◌∷◌, length, take, drop, get_or, map, All, Contains, Option, Some, None, Result, Ok, Err, cond, ◌↔◌, inl, inr, refl, sym, ap, ◌∙◌, subst, arith, w32, to_z, of_z, unsigned_abs}
+use Rattle.std.proofs.Common.{
+  ◌≡◌, ◌≢◌, ℕ, zero, suc, ◌+◌, ◌-◌, ◌<◌, ◌≤◌, ◌^◌, Bool, true, false, ℤ, pos, ◌-ℤ◌, neg_ℤ, List, [], ◌∷◌, length, take,
+  drop, get_or, map, All, Contains, Option, Some, None, Result, Ok, Err, cond, ◌↔◌, inl, inr, refl, sym, ap, ◌∙◌, subst,
+  arith, w32, to_z, of_z, unsigned_abs,
+}
 use Rattle.std.proofs.lemmas.Int.{ints}
 use Rattle.std.proofs.lemmas.List.{take-map, drop-map}
 use Rattle.std.proofs.lemmas.List.Elements.{All-head, All-tail}
@@ -28,17 +32,24 @@ use Rattle.half_mesh.specs.Order.{edge_cmp}
 use Rattle.half_mesh.specs.Rim.{IsRimEdge, IsAscending, IsRimOf, sum_on, ends_of}
 use Rattle.half_mesh.specs.Terms.{edge_of}
 use Rattle.half_mesh.proofs.CornerLaws.{triangles_around-is}
-use Rattle.geom_core.proofs.PointLaws.{true≢false, point_cmp-total, same_point-is, same_point-from, before-from_is_before, is_before-itself, same_point-before, same_point-after, placed}
+use Rattle.geom_core.proofs.PointLaws.{
+  true≢false, point_cmp-total, same_point-is, same_point-from, before-from_is_before, is_before-itself,
+  same_point-before, same_point-after, placed,
+}
 use Rattle.geom_core.proofs.PointLaws.Placed.{Before, Same, After}
-use Rattle.half_mesh.proofs.EdgeLaws.{edge_cmp-total, edge_from_equal, point_from_equal, zero_unless, rim_edge-some, rim_edge-from, edge_count-bound}
+use Rattle.half_mesh.proofs.EdgeLaws.{
+  edge_cmp-total, edge_from_equal, point_from_equal, zero_unless, rim_edge-some, rim_edge-from, edge_count-bound,
+}
 
 pub sorted_points : (points : List Pt) → AllPairs (λ p q. point_cmp p q ≡ Less) points → IsSorted point_cmp points
 sorted_points points ascending k d low high =
-    ap is_lt (point_cmp-total.antisymm (get_or points (k + 1) d) (get_or points k d) ∙ ap ordering_reverse (ascending k (k + 1) d (omega arith) high))
+    ap is_lt (point_cmp-total.antisymm (get_or points (k + 1) d) (get_or points k d) ∙
+        ap ordering_reverse (ascending k (k + 1) d (omega arith) high))
 
 pub sorted_from_ascending : (edges : List Edge) → IsAscending edges → IsSorted edge_cmp edges
 sorted_from_ascending edges ascending k d low high =
-    ap is_lt (edge_cmp-total.antisymm (get_or edges (k + 1) d) (get_or edges k d) ∙ ap ordering_reverse (ascending k (k + 1) d (omega arith) high))
+    ap is_lt (edge_cmp-total.antisymm (get_or edges (k + 1) d) (get_or edges k d) ∙
+        ap ordering_reverse (ascending k (k + 1) d (omega arith) high))
 
 -- a search that answers none finds none
 pub searched_none : {X : Type 0} (ord : X → Ordering) (xs : List X) (r : Result ℕ ℕ) → IsBinarySearchResult ord xs r →
@@ -62,7 +73,8 @@ pub place_holds : (points : List Pt) (p : Pt) (o : Option ℕ) → IfSome o (λ 
 place_holds points p (Some i) within found absent =
     (λ h. (i, within, point_from_equal (get_or points i p) p (found p)), λ h. refl)
 place_holds points p None within found absent =
-    (λ h. absurd (true≢false (sym h)), λ (k, in_bounds, here). absurd (absent k p in_bounds (ap (λ q. point_cmp q p) here ∙ tied_itself point_cmp-total p)))
+    (λ h. absurd (true≢false (sym h)), λ (k, in_bounds, here). absurd
+        (absent k p in_bounds (ap (λ q. point_cmp q p) here ∙ tied_itself point_cmp-total p)))
 
 -- ---- the sums
 
@@ -74,7 +86,8 @@ edge_sum-bound tris u v apart back few =
     let into = edge_count-bound tris v u back in
     by (edge_count tris u v) (edge_count tris v u) (omega arith) (omega arith)
   where
-    by : (m n : ℕ) → m ≤ MAX_SUMMED_TRIANGLES → n ≤ MAX_SUMMED_TRIANGLES → unsigned_abs (pos m -ℤ pos n) ≤ MAX_SUMMED_TRIANGLES
+    by : (m n : ℕ) → m ≤ MAX_SUMMED_TRIANGLES → n ≤ MAX_SUMMED_TRIANGLES →
+        unsigned_abs (pos m -ℤ pos n) ≤ MAX_SUMMED_TRIANGLES
     by m n m_few n_few = omega (arith, ints)
 
 sum_found : (tris : List Tri) (edges : List Edge) (sums : List ℤ) (u v : Pt) (place : ℕ) (z d : ℤ) →
@@ -87,10 +100,13 @@ sum_found tris edges sums u v place z d rim few in_bounds found read =
     let wanted : IsRimEdge tris e = rim.sound place (edge_of u v) in_bounds in
     let less : point_cmp u v ≡ Less = ap (λ (f : Edge). point_cmp f.u f.v) (sym here) ∙ wanted.0 in
     let before : is_before u v ≡ true = ap is_lt less in
-    let sum : z ≡ edge_sum tris u v = read ∙ ap (λ l. get_or l place d) rim.summed ∙ at edges place in_bounds ∙ ap (sum_on tris) here in
-    (sum, before, subst (λ k. unsigned_abs k ≤ MAX_SUMMED_TRIANGLES) (sym sum) (edge_sum-bound tris u v (same_point-before u v before) (same_point-after v u before) few))
+    let sum : z ≡ edge_sum tris u v =
+        read ∙ ap (λ l. get_or l place d) rim.summed ∙ at edges place in_bounds ∙ ap (sum_on tris) here in
+    (sum, before, subst (λ k. unsigned_abs k ≤ MAX_SUMMED_TRIANGLES) (sym sum)
+        (edge_sum-bound tris u v (same_point-before u v before) (same_point-after v u before) few))
   where
-    at : (edges : List Edge) (place : ℕ) → place < length edges → get_or (map (sum_on tris) edges) place d ≡ sum_on tris (get_or edges place (edge_of u v))
+    at : (edges : List Edge) (place : ℕ) → place < length edges →
+        get_or (map (sum_on tris) edges) place d ≡ sum_on tris (get_or edges place (edge_of u v))
     at [] place in_bounds = absurd (omega arith)
     at (f ∷ fs) zero in_bounds = refl
     at (f ∷ fs) (suc k) in_bounds = at fs k (omega arith)
@@ -116,14 +132,17 @@ sum_absent tris edges sums u v rim absent = by (is_before u v) refl
     none : is_before u v ≡ true → (b : Bool) → is_rim_edge tris u v ≡ b → pos 0 ≡ edge_sum tris u v
     none before true some =
         let at = rim.complete (edge_of u v) (before-from_is_before u v before, some) in
-        absurd (absent at.0 (edge_of u v) at.1 (ap (λ e. edge_cmp e (edge_of u v)) at.2 ∙ tied_itself edge_cmp-total (edge_of u v)))
-    none before false cancels = sym (zero_unless (edge_sum tris u v) (λ some. true≢false (sym (rim_edge-from tris u v some) ∙ cancels)))
+        absurd (absent at.0 (edge_of u v) at.1 (ap (λ e. edge_cmp e (edge_of u v)) at.2 ∙
+            tied_itself edge_cmp-total (edge_of u v)))
+    none before false cancels =
+        sym (zero_unless (edge_sum tris u v) (λ some. true≢false (sym (rim_edge-from tris u v some) ∙ cancels)))
 
     by : (b : Bool) → is_before u v ≡ b → pos 0 ≡ (cond (is_before u v) (edge_sum tris u v) (pos 0))
     by true before = rw before (none before (is_rim_edge tris u v) refl)
     by false upto = rw upto refl
 
-turned_cast : (s : ℤ) → unsigned_abs s ≤ MAX_SUMMED_TRIANGLES → to_z w32 (of_z w32 (pos 0 -ℤ to_z w32 (of_z w32 s))) ≡ neg_ℤ s
+turned_cast : (s : ℤ) → unsigned_abs s ≤ MAX_SUMMED_TRIANGLES →
+    to_z w32 (of_z w32 (pos 0 -ℤ to_z w32 (of_z w32 s))) ≡ neg_ℤ s
 turned_cast s bound = omega (arith, ints)
 
 -- the sum the other way round

@@ -1,8 +1,17 @@
 -- Terms of edge sums: what lists of them add up to, and adding up a sorted list.
-use Rattle.std.proofs.Common.{◌≡◌, ◌≢◌, ℕ, zero, suc, ◌+◌, ◌-◌, ◌%◌, ◌^◌, ◌<◌, ◌≤◌, inl, inr, Bool, true, false, not, ◌&&◌, ℤ, pos, negsuc, ◌+ℤ◌, ◌-ℤ◌, neg_ℤ, List, [], ◌∷◌, ◌++◌, length, take, get_or, map, flat_map, All, cond, Ordering, FitsSigned, Fits, w32, to_z, of_z, refl, sym, ap, ◌∙◌, subst, arith}
-use Rattle.std.proofs.lemmas.Int.{ints, SFits-int_wrap, int_wrap_fits, int_wrap-add_left, int_wrap-add_right, wrapping_add-bits, to_z-of_z}
+use Rattle.std.proofs.Common.{
+  ◌≡◌, ◌≢◌, ℕ, zero, suc, ◌+◌, ◌-◌, ◌%◌, ◌^◌, ◌<◌, ◌≤◌, inl, inr, Bool, true, false, not, ◌&&◌, ℤ, pos, negsuc, ◌+ℤ◌,
+  ◌-ℤ◌, neg_ℤ, List, [], ◌∷◌, ◌++◌, length, take, get_or, map, flat_map, All, cond, Ordering, FitsSigned, Fits, w32,
+  to_z, of_z, refl, sym, ap, ◌∙◌, subst, arith,
+}
+use Rattle.std.proofs.lemmas.Int.{
+  ints, SFits-int_wrap, int_wrap_fits, int_wrap-add_left, int_wrap-add_right, wrapping_add-bits, to_z-of_z,
+}
 use Rattle.std.proofs.Math.Facts.{Fits-of_z}
-use Rattle.std.proofs.lemmas.List.{append-nil, append_assoc, map-append, take_more, take_all, get_or_default, length-append, get_or_append_left, get_or-append_right}
+use Rattle.std.proofs.lemmas.List.{
+  append-nil, append_assoc, map-append, take_more, take_all, get_or_default, length-append, get_or_append_left,
+  get_or-append_right,
+}
 use Rattle.std.proofs.lemmas.List.Elements.{All-nil, All-head, All-tail, All-append}
 use Rattle.std.proofs.lemmas.List.Sums.{sum_by-cons}
 use Rattle.std.proofs.lemmas.List.Sorted.{sum_by-IsPermutation}
@@ -21,8 +30,13 @@ use Rattle.half_mesh.specs.declared.edges.Edge.{Edge}
 use Rattle.half_mesh.specs.declared.terms.EdgeTerm.{EdgeTerm}
 use Rattle.half_mesh.specs.Order.{edge_cmp}
 use Rattle.half_mesh.specs.Rim.{EdgeSums, IsAscending, same_edge, sum_in, sum_in_all}
-use Rattle.half_mesh.specs.Terms.{edge_of, term, term_of, terms_of, total_at, AreSmall, unless_cancelled, terms_in, terms_in_all, IsByEdge, AddUpAlike, IsSumOf}
-use Rattle.half_mesh.proofs.EdgeLaws.{edge_cmp-total, same_edge-is, same_edge-from, same_edge-itself, same_edge-before, derived_edge_eq, derived_edge_eq-is}
+use Rattle.half_mesh.specs.Terms.{
+  edge_of, term, term_of, terms_of, total_at, AreSmall, unless_cancelled, terms_in, terms_in_all, IsByEdge, AddUpAlike,
+  IsSumOf,
+}
+use Rattle.half_mesh.proofs.EdgeLaws.{
+  edge_cmp-total, same_edge-is, same_edge-from, same_edge-itself, same_edge-before, derived_edge_eq, derived_edge_eq-is,
+}
 use Rattle.geom_core.proofs.PointLaws.{true≢false}
 
 -- ---- what lists add up to
@@ -57,7 +71,8 @@ unfolding total_at
 total_at-absent e [] none = refl
 total_at-absent e (x ∷ xs) none =
     rw (All-head (λ (t : EdgeTerm). same_edge t.edge e ≡ false) x xs none)
-    (nothing_added (total_at e xs) ∙ total_at-absent e xs (All-tail (λ (t : EdgeTerm). same_edge t.edge e ≡ false) x xs none))
+    (nothing_added (total_at e xs) ∙ total_at-absent e xs
+        (All-tail (λ (t : EdgeTerm). same_edge t.edge e ≡ false) x xs none))
 
 -- ---- the order of the terms doesn't matter
 
@@ -89,7 +104,8 @@ total_at-parts e (x ∷ xs) =
 
 pub total_at-IsPermutation : (e : Edge) (xs ys : List EdgeTerm) → IsPermutation xs ys → total_at e ys ≡ total_at e xs
 total_at-IsPermutation e xs ys moved =
-    rw (total_at-parts e xs, total_at-parts e ys, sum_by-IsPermutation (ups e) xs ys moved, sum_by-IsPermutation (downs e) xs ys moved) refl
+    rw (total_at-parts e xs, total_at-parts e ys, sum_by-IsPermutation (ups e) xs ys moved,
+        sum_by-IsPermutation (downs e) xs ys moved) refl
 
 pub IsSumOf-IsPermutation : (xs ys sums : List EdgeTerm) → IsPermutation xs ys → IsSumOf ys sums → IsSumOf xs sums
 IsSumOf-IsPermutation xs ys sums moved added = record {
@@ -114,24 +130,29 @@ AllPairs-left R xs ys all i j d below in_bounds =
     (subst (λ y. R (get_or (xs ++ ys) i d) y) (get_or_append_left xs ys d j in_bounds)
     (all i j d below (omega (arith, length-append xs ys))))
 
-pub AllPairs-last : {X : Type 0} (R : X → X → Type 0) (xs : List X) (y : X) → AllPairs R (xs ++ y ∷ []) → All (λ x. R x y) xs
+pub AllPairs-last : {X : Type 0} (R : X → X → Type 0) (xs : List X) (y : X) → AllPairs R (xs ++ y ∷ []) →
+    All (λ x. R x y) xs
 AllPairs-last R xs y all i d in_bounds =
     subst (λ x. R x y) (get_or_append_left xs (y ∷ []) d i in_bounds)
-    (subst (λ z. R (get_or (xs ++ y ∷ []) i d) z) (get_or-append_right xs (y ∷ []) (length xs) (length xs) d refl (omega arith) ∙ last)
+    (subst (λ z. R (get_or (xs ++ y ∷ []) i d) z)
+        (get_or-append_right xs (y ∷ []) (length xs) (length xs) d refl (omega arith) ∙ last)
     (all i (length xs) d in_bounds (omega (arith, length-append xs (y ∷ [])))))
   where
     last : get_or (y ∷ []) (length xs - length xs) d ≡ y
     last = let none : length xs - length xs ≡ 0 = omega arith in rw none refl
 
-pub AllPairs-push : {X : Type 0} (R : X → X → Type 0) (xs : List X) (y : X) → AllPairs R xs → All (λ x. R x y) xs → AllPairs R (xs ++ y ∷ [])
+pub AllPairs-push : {X : Type 0} (R : X → X → Type 0) (xs : List X) (y : X) → AllPairs R xs → All (λ x. R x y) xs →
+    AllPairs R (xs ++ y ∷ [])
 AllPairs-push {X} R xs y all upto i j d below in_bounds =
     let len = length-append xs (y ∷ []) in
     let i_in : i < length xs = omega arith in
     elim (cases_lt j (length xs)) [
-      | inl j_in ↦ rw (get_or_append_left xs (y ∷ []) d i i_in, get_or_append_left xs (y ∷ []) d j j_in) (all i j d below j_in)
+      | inl j_in ↦ rw (get_or_append_left xs (y ∷ []) d i i_in, get_or_append_left xs (y ∷ []) d j j_in)
+          (all i j d below j_in)
       | inr j_past ↦
           let none : j - length xs ≡ 0 = omega arith in
-          rw (get_or_append_left xs (y ∷ []) d i i_in, get_or-append_right xs (y ∷ []) (length xs) j d refl j_past, none) (upto i d i_in)
+          rw (get_or_append_left xs (y ∷ []) d i i_in, get_or-append_right xs (y ∷ []) (length xs) j d refl j_past,
+              none) (upto i d i_in)
     ]
 
 abbrev edges_in : List EdgeTerm → List Edge
@@ -165,16 +186,20 @@ All-front : {X : Type 0} (P : X → Type 0) (xs ys : List X) → All P (xs ++ ys
 All-front P xs ys all k d in_bounds =
     subst P (get_or_append_left xs ys d k in_bounds) (all k d (omega (arith, length-append xs ys)))
 
-small_push : (sums : List EdgeTerm) (last t : EdgeTerm) → AreSmall (sums ++ last ∷ []) → FitsSigned w32 t.sum → AreSmall (sums ++ t ∷ [])
+small_push : (sums : List EdgeTerm) (last t : EdgeTerm) → AreSmall (sums ++ last ∷ []) → FitsSigned w32 t.sum →
+    AreSmall (sums ++ t ∷ [])
 small_push sums last t small fits =
-    All-append (λ (t : EdgeTerm). FitsSigned w32 t.sum) sums (t ∷ []) (All-front (λ (t : EdgeTerm). FitsSigned w32 t.sum) sums (last ∷ []) small) (small_one t fits)
+    All-append (λ (t : EdgeTerm). FitsSigned w32 t.sum) sums (t ∷ [])
+        (All-front (λ (t : EdgeTerm). FitsSigned w32 t.sum) sums (last ∷ []) small) (small_one t fits)
 
 pub adding_first : (first : EdgeTerm) → FitsSigned w32 first.sum → IsAdding (first ∷ []) [] first
 adding_first first fits = record {
   ascending = λ i j d below in_bounds. absurd (omega arith);
   some = All-nil (λ (t : EdgeTerm). t.sum ≢ pos 0);
   small = small_one first fits;
-  total = λ e. sym (int_wrap_fits w32 (total_at e (first ∷ [])) (subst (FitsSigned w32) (sym (total_at-one e first)) (by (same_edge first.edge e))));
+  total =
+      λ e. sym (int_wrap_fits w32 (total_at e (first ∷ []))
+      (subst (FitsSigned w32) (sym (total_at-one e first)) (by (same_edge first.edge e))));
 }
   where
     by : (b : Bool) → FitsSigned w32 (cond b first.sum (pos 0))
@@ -188,10 +213,12 @@ before_last taken sums last so_far =
     All-map (λ e. edge_cmp e last.edge ≡ Less) (λ (t : EdgeTerm). t.edge) sums
     (AllPairs-last (λ e f. edge_cmp e f ≡ Less) (edges_in sums) last.edge so_far.ascending)
 
-none_before : (taken sums : List EdgeTerm) (last : EdgeTerm) → IsAdding taken sums last → total_at last.edge sums ≡ pos 0
+none_before : (taken sums : List EdgeTerm) (last : EdgeTerm) → IsAdding taken sums last →
+    total_at last.edge sums ≡ pos 0
 none_before taken sums last so_far =
     total_at-absent last.edge sums
-    (λ k d in_bounds. same_edge-before (get_or sums k d).edge last.edge (before_last taken sums last so_far k d in_bounds))
+    (λ k d in_bounds. same_edge-before (get_or sums k d).edge last.edge
+        (before_last taken sums last so_far k d in_bounds))
 
 pub adding_same : (taken sums : List EdgeTerm) (last next : EdgeTerm) (sum : ℤ) → IsAdding taken sums last →
     same_edge next.edge last.edge ≡ true → sum ≡ int_wrap w32 (last.sum +ℤ next.sum) →
@@ -199,7 +226,9 @@ pub adding_same : (taken sums : List EdgeTerm) (last next : EdgeTerm) (sum : ℤ
 adding_same taken sums last next sum so_far same is = record {
   ascending = so_far.ascending;
   some = so_far.some;
-  small = small_push sums last (term last.edge sum) so_far.small (subst (FitsSigned w32) (sym is) (SFits-int_wrap w32 (last.sum +ℤ next.sum)));
+  small =
+      small_push sums last (term last.edge sum) so_far.small
+      (subst (FitsSigned w32) (sym is) (SFits-int_wrap w32 (last.sum +ℤ next.sum)));
   total = λ e. by e (same_edge last.edge e) refl;
 }
   where
@@ -212,12 +241,16 @@ adding_same taken sums last next sum so_far same is = record {
         let old : total_at e sums +ℤ pos 0 ≡ int_wrap w32 (total_at e taken) =
         rw apart at (sym (total_at-push e sums last) ∙ so_far.total e) in
         total_at-push e sums (term last.edge sum) ∙
-        rw apart (old ∙ ap (int_wrap w32) (sym (total_at-push e taken next ∙ rw (ap (λ f. same_edge f e) here ∙ apart) (add_nothing (total_at e taken)))))
+        rw apart
+            (old ∙ ap (int_wrap w32) (sym (total_at-push e taken next ∙
+            rw (ap (λ f. same_edge f e) here ∙ apart) (add_nothing (total_at e taken)))))
     by e true at =
-        let none : total_at e sums ≡ pos 0 = ap (λ f. total_at f sums) (sym (same_edge-from last.edge e at)) ∙ none_before taken sums last so_far in
+        let none : total_at e sums ≡ pos 0 =
+            ap (λ f. total_at f sums) (sym (same_edge-from last.edge e at)) ∙ none_before taken sums last so_far in
         let old : total_at e sums +ℤ last.sum ≡ int_wrap w32 (total_at e taken) =
         rw at at (sym (total_at-push e sums last) ∙ so_far.total e) in
-        let last_is : last.sum ≡ int_wrap w32 (total_at e taken) = sym (ap (λ z. z +ℤ last.sum) none ∙ nothing_added last.sum) ∙ old in
+        let last_is : last.sum ≡ int_wrap w32 (total_at e taken) =
+            sym (ap (λ z. z +ℤ last.sum) none ∙ nothing_added last.sum) ∙ old in
         total_at-push e sums (term last.edge sum) ∙
         rw at (ap (λ z. z +ℤ sum) none ∙ nothing_added sum ∙ is ∙
         ap (λ z. int_wrap w32 (z +ℤ next.sum)) last_is ∙ int_wrap-add_left w32 (total_at e taken) next.sum ∙
@@ -228,11 +261,13 @@ total_at-unless_cancelled : (e : Edge) (sums : List EdgeTerm) (last : EdgeTerm) 
     total_at e (sums ++ unless_cancelled last) ≡ total_at e (sums ++ last ∷ [])
 total_at-unless_cancelled e sums last = by (int_eq last.sum (pos 0)) refl
   where
-    by : (b : Bool) → int_eq last.sum (pos 0) ≡ b → total_at e (sums ++ unless_cancelled last) ≡ total_at e (sums ++ last ∷ [])
+    by : (b : Bool) → int_eq last.sum (pos 0) ≡ b →
+        total_at e (sums ++ unless_cancelled last) ≡ total_at e (sums ++ last ∷ [])
     by false some = rw some refl
     by true none =
         let nothing : last.sum ≡ pos 0 = zero_from last.sum none in
-        rw none (ap (total_at e) (append-nil sums) ∙ sym (total_at-push e sums last ∙ rw nothing (whichever (same_edge last.edge e))))
+        rw none (ap (total_at e) (append-nil sums) ∙
+            sym (total_at-push e sums last ∙ rw nothing (whichever (same_edge last.edge e))))
       where
         zero_from : (k : ℤ) → int_eq k (pos 0) ≡ true → k ≡ pos 0
         zero_from k h = grind (arith, ints)
@@ -259,14 +294,17 @@ ascends_unless_cancelled : (sums : List EdgeTerm) (last : EdgeTerm) → IsAscend
 ascends_unless_cancelled sums last ascends = by (int_eq last.sum (pos 0)) refl
   where
     by : (b : Bool) → int_eq last.sum (pos 0) ≡ b → IsAscending (edges_in (sums ++ unless_cancelled last))
-    by true none = rw (none, append-nil sums) (AllPairs-left (λ e f. edge_cmp e f ≡ Less) (edges_in sums) (last.edge ∷ []) ascends)
+    by true none =
+        rw (none, append-nil sums) (AllPairs-left (λ e f. edge_cmp e f ≡ Less) (edges_in sums) (last.edge ∷ []) ascends)
     by false other = rw (other, map-append (λ (t : EdgeTerm). t.edge) sums (last ∷ [])) ascends
 
-small_unless_cancelled : (sums : List EdgeTerm) (last : EdgeTerm) → AreSmall (sums ++ last ∷ []) → AreSmall (sums ++ unless_cancelled last)
+small_unless_cancelled : (sums : List EdgeTerm) (last : EdgeTerm) → AreSmall (sums ++ last ∷ []) →
+    AreSmall (sums ++ unless_cancelled last)
 small_unless_cancelled sums last small = by (int_eq last.sum (pos 0)) refl
   where
     by : (b : Bool) → int_eq last.sum (pos 0) ≡ b → AreSmall (sums ++ unless_cancelled last)
-    by true none = rw (none, append-nil sums) (All-front (λ (t : EdgeTerm). FitsSigned w32 t.sum) sums (last ∷ []) small)
+    by true none =
+        rw (none, append-nil sums) (All-front (λ (t : EdgeTerm). FitsSigned w32 t.sum) sums (last ∷ []) small)
     by false other = rw other small
 
 -- all terms are added up
@@ -283,9 +321,13 @@ pub adding_next : (taken sums : List EdgeTerm) (last next : EdgeTerm) → IsAddi
     edge_cmp last.edge next.edge ≡ Less → FitsSigned w32 next.sum →
     IsAdding (taken ++ next ∷ []) (sums ++ unless_cancelled last) next
 adding_next taken sums last next so_far later fits = record {
-  ascending = AllPairs-push (λ e f. edge_cmp e f ≡ Less) (edges_in (sums ++ unless_cancelled last)) next.edge ended.ascending all_before;
+  ascending =
+      AllPairs-push (λ e f. edge_cmp e f ≡ Less)
+      (edges_in (sums ++ unless_cancelled last)) next.edge ended.ascending all_before;
   some = ended.some;
-  small = All-append (λ (t : EdgeTerm). FitsSigned w32 t.sum) (sums ++ unless_cancelled last) (next ∷ []) ended.small (small_one next fits);
+  small =
+      All-append (λ (t : EdgeTerm). FitsSigned w32 t.sum) (sums ++ unless_cancelled last) (next ∷ []) ended.small
+      (small_one next fits);
   total = λ e. by e (same_edge next.edge e) refl;
 }
   where
@@ -305,14 +347,18 @@ adding_next taken sums last next so_far later fits = record {
     all_before : All (λ e. edge_cmp e next.edge ≡ Less) (edges_in (sums ++ unless_cancelled last))
     all_before = kept (int_eq last.sum (pos 0)) refl
       where
-        kept : (b : Bool) → int_eq last.sum (pos 0) ≡ b → All (λ e. edge_cmp e next.edge ≡ Less) (edges_in (sums ++ unless_cancelled last))
-        kept true none = rw (none, append-nil sums) (All-front (λ e. edge_cmp e next.edge ≡ Less) (edges_in sums) (last.edge ∷ []) upto)
+        kept : (b : Bool) → int_eq last.sum (pos 0) ≡ b →
+            All (λ e. edge_cmp e next.edge ≡ Less) (edges_in (sums ++ unless_cancelled last))
+        kept true none =
+            rw (none, append-nil sums) (All-front (λ e. edge_cmp e next.edge ≡ Less) (edges_in sums)
+            (last.edge ∷ []) upto)
         kept false other = rw (other, map-append (λ (t : EdgeTerm). t.edge) sums (last ∷ [])) upto
 
     none_at_next : total_at next.edge (sums ++ unless_cancelled last) ≡ pos 0
     none_at_next = total_at-absent next.edge (sums ++ unless_cancelled last)
         (λ k d in_bounds. same_edge-before (get_or (sums ++ unless_cancelled last) k d).edge next.edge
-        (All-map (λ e. edge_cmp e next.edge ≡ Less) (λ (t : EdgeTerm). t.edge) (sums ++ unless_cancelled last) all_before k d in_bounds))
+        (All-map (λ e. edge_cmp e next.edge ≡ Less) (λ (t : EdgeTerm). t.edge)
+            (sums ++ unless_cancelled last) all_before k d in_bounds))
 
     by : (e : Edge) (b : Bool) → same_edge next.edge e ≡ b →
         total_at e ((sums ++ unless_cancelled last) ++ next ∷ []) ≡ int_wrap w32 (total_at e (taken ++ next ∷ []))
@@ -341,7 +387,8 @@ later_from_sorted e f upto apart = by (edge_cmp f e) refl (sym (same_edge-is f e
 
 -- ---- lists that add up alike
 
-pub alike-append : (xs ys us vs : List EdgeTerm) → AddUpAlike xs ys → AddUpAlike us vs → AddUpAlike (xs ++ us) (ys ++ vs)
+pub alike-append : (xs ys us vs : List EdgeTerm) → AddUpAlike xs ys → AddUpAlike us vs →
+    AddUpAlike (xs ++ us) (ys ++ vs)
 alike-append xs ys us vs front back e =
     ap (int_wrap w32) (total_at-append e xs us) ∙ wrapped (total_at e xs) (total_at e us) ∙
     ap (λ z. int_wrap w32 (z +ℤ int_wrap w32 (total_at e us))) (front e) ∙
@@ -358,9 +405,11 @@ sums-alike terms sums added e = ap (int_wrap w32) (added.total e) ∙ again (tot
     again a = int_wrap_fits w32 (int_wrap w32 a) (SFits-int_wrap w32 a)
 
 -- a piece's terms are added up, and appended to those of earlier pieces
-pub alike-piece : {T : Type 0} (terms_at : T → List EdgeTerm) (tris rest piece later : List T) (terms sums : List EdgeTerm) →
+pub alike-piece : {T : Type 0} (terms_at : T → List EdgeTerm) (tris rest piece later : List T)
+    (terms sums : List EdgeTerm) →
     AddUpAlike (terms ++ flat_map terms_at rest) (flat_map terms_at tris) → rest ≡ piece ++ later →
-    IsSumOf (flat_map terms_at piece) sums → AddUpAlike ((terms ++ sums) ++ flat_map terms_at later) (flat_map terms_at tris)
+    IsSumOf (flat_map terms_at piece) sums →
+    AddUpAlike ((terms ++ sums) ++ flat_map terms_at later) (flat_map terms_at tris)
 alike-piece {T} terms_at tris rest piece later terms sums so_far whole added e =
     ap (λ l. int_wrap w32 (total_at e l)) (append_assoc terms sums (flat_map terms_at later)) ∙
     alike-append terms terms (sums ++ flat_map terms_at later) (flat_map terms_at rest) (λ f. refl) rest_alike e ∙
@@ -370,7 +419,8 @@ alike-piece {T} terms_at tris rest piece later terms sums so_far whole added e =
     rest_alike f =
         alike-append sums (flat_map terms_at piece) (flat_map terms_at later) (flat_map terms_at later)
         (sums-alike (flat_map terms_at piece) sums added) (λ g. refl) f ∙
-        ap (λ l. int_wrap w32 (total_at f l)) (sym (ap (flat_map terms_at) whole ∙ flat_map-append terms_at piece later))
+        ap (λ l. int_wrap w32 (total_at f l)) (sym
+            (ap (flat_map terms_at) whole ∙ flat_map-append terms_at piece later))
 
 -- ---- the loop that adds up
 
@@ -379,38 +429,46 @@ pub adding_start : (terms : List EdgeTerm) (first : EdgeTerm) (later sums : List
     IsAdding (take 1 terms) sums (term first.edge (to_z w32 (of_z w32 first.sum))) ×
     ((d : EdgeTerm) → first.edge ≡ (get_or terms 0 d).edge)
 adding_start terms first later sums whole small none =
-    let fits : FitsSigned w32 first.sum = All-head (λ (t : EdgeTerm). FitsSigned w32 t.sum) first later (subst AreSmall whole small) in
+    let fits : FitsSigned w32 first.sum =
+        All-head (λ (t : EdgeTerm). FitsSigned w32 t.sum) first later (subst AreSmall whole small) in
     let cast : to_z w32 (of_z w32 first.sum) ≡ first.sum = to_z-of_z w32 first.sum fits in
     rw (whole, none, cast) (adding_first first fits, λ d. refl)
 
 -- the loop's item, in the whole list
-next_in : (terms : List EdgeTerm) (first : EdgeTerm) (later : List EdgeTerm) (i : ℕ) (d : EdgeTerm) → terms ≡ first ∷ later →
+next_in : (terms : List EdgeTerm) (first : EdgeTerm) (later : List EdgeTerm) (i : ℕ) (d : EdgeTerm) →
+    terms ≡ first ∷ later →
     get_or terms (i + 1) d ≡ get_or later i d
 next_in terms first later i d whole =
     let next : i + 1 ≡ suc i = omega arith in
     ap (λ l. get_or l (i + 1) d) whole ∙ ap (λ k. get_or (first ∷ later) k d) next
 
-in_terms : (terms : List EdgeTerm) (first : EdgeTerm) (later : List EdgeTerm) (i : ℕ) → terms ≡ first ∷ later → i < length later → i + 1 < length terms
+in_terms : (terms : List EdgeTerm) (first : EdgeTerm) (later : List EdgeTerm) (i : ℕ) → terms ≡ first ∷ later →
+    i < length later → i + 1 < length terms
 in_terms terms first later i whole in_bounds = omega (arith, ap length whole)
 
-one_more : (terms : List EdgeTerm) (first : EdgeTerm) (later : List EdgeTerm) (i : ℕ) (d : EdgeTerm) → terms ≡ first ∷ later → i < length later →
+one_more : (terms : List EdgeTerm) (first : EdgeTerm) (later : List EdgeTerm) (i : ℕ) (d : EdgeTerm) →
+    terms ≡ first ∷ later → i < length later →
     take (i + 1 + 1) terms ≡ take (i + 1) terms ++ get_or later i d ∷ []
 one_more terms first later i d whole in_bounds =
     take_more terms (i + 1) d (in_terms terms first later i whole in_bounds) ∙
     ap (λ t. take (i + 1) terms ++ t ∷ []) (next_in terms first later i d whole)
 
-edge_next : (terms : List EdgeTerm) (first : EdgeTerm) (later : List EdgeTerm) (i : ℕ) (d d2 : EdgeTerm) → terms ≡ first ∷ later → i < length later →
+edge_next : (terms : List EdgeTerm) (first : EdgeTerm) (later : List EdgeTerm) (i : ℕ) (d d2 : EdgeTerm) →
+    terms ≡ first ∷ later → i < length later →
     (get_or terms (i + 1) d2).edge ≡ (get_or later i d).edge
 edge_next terms first later i d d2 whole in_bounds =
-    ap (λ (t : EdgeTerm). t.edge) (get_or_default terms (i + 1) d2 d (in_terms terms first later i whole in_bounds) ∙ next_in terms first later i d whole)
+    ap (λ (t : EdgeTerm). t.edge) (get_or_default terms (i + 1) d2 d (in_terms terms first later i whole in_bounds) ∙
+        next_in terms first later i d whole)
 
-pub adding_equal : (terms : List EdgeTerm) (first : EdgeTerm) (later sums sums2 : List EdgeTerm) (edge edge2 : Edge) (bits : ℕ) (sum2 : ℤ) (i : ℕ) (d : EdgeTerm) →
+pub adding_equal : (terms : List EdgeTerm) (first : EdgeTerm) (later sums sums2 : List EdgeTerm) (edge edge2 : Edge)
+    (bits : ℕ) (sum2 : ℤ) (i : ℕ) (d : EdgeTerm) →
     terms ≡ first ∷ later → AreSmall terms → i < length later →
     IsAdding (take (i + 1) terms) sums (term edge (to_z w32 bits)) × ((e : EdgeTerm) → edge ≡ (get_or terms i e).edge) →
     derived_edge_eq (get_or later i d).edge edge ≡ true → sums2 ≡ sums → edge2 ≡ edge → Fits w32 bits →
     sum2 ≡ to_z w32 ((bits + of_z w32 (get_or later i d).sum) % 2 ^ 32) →
     IsAdding (take (i + 1 + 1) terms) sums2 (term edge2 sum2) × ((e : EdgeTerm) → edge2 ≡ (get_or terms (i + 1) e).edge)
-adding_equal terms first later sums sums2 edge edge2 bits sum2 i d whole small in_bounds so_far tie kept same known total =
+adding_equal terms first later sums sums2 edge edge2 bits sum2 i d whole small in_bounds so_far tie kept same known
+    total =
     let next : EdgeTerm = get_or later i d in
     let fits : FitsSigned w32 next.sum =
     subst (λ (t : EdgeTerm). FitsSigned w32 t.sum) (next_in terms first later i d whole)
@@ -418,18 +476,21 @@ adding_equal terms first later sums sums2 edge edge2 bits sum2 i d whole small i
     let is_edge : same_edge next.edge edge ≡ true = sym (derived_edge_eq-is next.edge edge) ∙ tie in
     rw (kept, same, one_more terms first later i d whole in_bounds) (
       adding_same (take (i + 1) terms) sums (term edge (to_z w32 bits)) next sum2 so_far.0 is_edge
-          (total ∙ wrapping_add-bits w32 bits (of_z w32 next.sum) (omega (arith, known)) (omega (arith, Fits-of_z fits)) ∙
+          (total ∙ wrapping_add-bits w32 bits (of_z w32 next.sum) (omega (arith, known))
+              (omega (arith, Fits-of_z fits)) ∙
           ap (λ z. int_wrap w32 (to_z w32 bits +ℤ z)) (to_z-of_z w32 next.sum fits)),
       λ e. sym (same_edge-from next.edge edge is_edge) ∙ sym (edge_next terms first later i d e whole in_bounds),
     )
 
-pub adding_later : (terms : List EdgeTerm) (first : EdgeTerm) (later sums sums2 : List EdgeTerm) (edge edge2 : Edge) (sum sum2 : ℤ) (i : ℕ) (d : EdgeTerm) →
+pub adding_later : (terms : List EdgeTerm) (first : EdgeTerm) (later sums sums2 : List EdgeTerm) (edge edge2 : Edge)
+    (sum sum2 : ℤ) (i : ℕ) (d : EdgeTerm) →
     terms ≡ first ∷ later → IsByEdge terms → AreSmall terms → i < length later →
     IsAdding (take (i + 1) terms) sums (term edge sum) × ((e : EdgeTerm) → edge ≡ (get_or terms i e).edge) →
     derived_edge_eq (get_or later i d).edge edge ≡ false → sums2 ≡ sums ++ unless_cancelled (term edge sum) →
     edge2 ≡ (get_or later i d).edge → sum2 ≡ to_z w32 (of_z w32 (get_or later i d).sum) →
     IsAdding (take (i + 1 + 1) terms) sums2 (term edge2 sum2) × ((e : EdgeTerm) → edge2 ≡ (get_or terms (i + 1) e).edge)
-adding_later terms first later sums sums2 edge edge2 sum sum2 i d whole sorted small in_bounds so_far apart pushed same total =
+adding_later terms first later sums sums2 edge edge2 sum sum2 i d whole sorted small in_bounds so_far apart pushed same
+    total =
     let next : EdgeTerm = get_or later i d in
     let inside = in_terms terms first later i whole in_bounds in
     let fits : FitsSigned w32 next.sum =
@@ -444,11 +505,13 @@ adding_later terms first later sums sums2 edge edge2 sum sum2 i d whole sorted s
       λ e. sym (edge_next terms first later i d e whole in_bounds),
     )
 
-pub adding_done : (terms : List EdgeTerm) (first : EdgeTerm) (later sums sums2 : List EdgeTerm) (edge : Edge) (sum : ℤ) (i : ℕ) →
+pub adding_done : (terms : List EdgeTerm) (first : EdgeTerm) (later sums sums2 : List EdgeTerm) (edge : Edge) (sum : ℤ)
+    (i : ℕ) →
     terms ≡ first ∷ later → length later ≤ i → IsAdding (take (i + 1) terms) sums (term edge sum) →
     sums2 ≡ sums ++ unless_cancelled (term edge sum) → IsSumOf terms sums2
 adding_done terms first later sums sums2 edge sum i whole past so_far pushed =
-    rw pushed (subst (λ l. IsSumOf l (sums ++ unless_cancelled (term edge sum))) (take_all (i + 1) terms (omega (arith, ap length whole)))
+    rw pushed (subst (λ l. IsSumOf l (sums ++ unless_cancelled (term edge sum)))
+        (take_all (i + 1) terms (omega (arith, ap length whole)))
     (adding_end (take (i + 1) terms) sums (term edge sum) so_far))
 
 -- ---- the terms of triangles are small
@@ -458,9 +521,11 @@ unfolding terms_of edges_of term_of
 terms_small [] = All-nil (λ (t : EdgeTerm). FitsSigned w32 t.sum)
 terms_small (t ∷ tris) =
     All-append (λ (t : EdgeTerm). FitsSigned w32 t.sum) (terms_of t) (flat_map terms_of tris)
-    (All-append (λ (t : EdgeTerm). FitsSigned w32 t.sum) (term_of (t.a, t.b)) (term_of (t.b, t.c) ++ (term_of (t.c, t.a) ++ [])) (one t.a t.b)
+    (All-append (λ (t : EdgeTerm). FitsSigned w32 t.sum) (term_of (t.a, t.b))
+        (term_of (t.b, t.c) ++ (term_of (t.c, t.a) ++ [])) (one t.a t.b)
     (All-append (λ (t : EdgeTerm). FitsSigned w32 t.sum) (term_of (t.b, t.c)) (term_of (t.c, t.a) ++ []) (one t.b t.c)
-    (All-append (λ (t : EdgeTerm). FitsSigned w32 t.sum) (term_of (t.c, t.a)) [] (one t.c t.a) (All-nil (λ (t : EdgeTerm). FitsSigned w32 t.sum)))))
+    (All-append (λ (t : EdgeTerm). FitsSigned w32 t.sum) (term_of (t.c, t.a)) [] (one t.c t.a)
+        (All-nil (λ (t : EdgeTerm). FitsSigned w32 t.sum)))))
     (terms_small tris)
   where
     up : FitsSigned w32 (pos 1)
@@ -490,7 +555,8 @@ alike_piece tris rest piece later terms sums grown so_far whole added pushed =
 
 -- ---- the terms of a rim
 
-pub terms_in-more : (edges : List Edge) (sums : List ℤ) (i : ℕ) (d : Edge) (z : ℤ) → length sums ≡ length edges → i < length edges →
+pub terms_in-more : (edges : List Edge) (sums : List ℤ) (i : ℕ) (d : Edge) (z : ℤ) → length sums ≡ length edges →
+    i < length edges →
     terms_in (take (i + 1) edges) (take (i + 1) sums) ≡
     terms_in (take i edges) (take i sums) ++ term (get_or edges i d) (get_or sums i z) ∷ []
 unfolding terms_in
@@ -507,7 +573,8 @@ terms_in-small [] sums small = All-nil (λ (t : EdgeTerm). FitsSigned w32 t.sum)
 terms_in-small (e ∷ edges) [] small = All-nil (λ (t : EdgeTerm). FitsSigned w32 t.sum)
 terms_in-small (e ∷ edges) (sum ∷ sums) small =
     All-append (λ (t : EdgeTerm). FitsSigned w32 t.sum) (term e sum ∷ []) (terms_in edges sums)
-    (small_one (term e sum) (All-head (FitsSigned w32) sum sums small)) (terms_in-small edges sums (All-tail (FitsSigned w32) sum sums small))
+    (small_one (term e sum) (All-head (FitsSigned w32) sum sums small))
+        (terms_in-small edges sums (All-tail (FitsSigned w32) sum sums small))
 
 -- one more part
 pub joining : (parts : List EdgeSums) (i : ℕ) (d : EdgeSums) (terms grown : List EdgeTerm) → i < length parts →
@@ -519,8 +586,10 @@ joining parts i d terms grown in_bounds so_far pushed small = (
   pushed ∙ ap (λ l. l ++ terms_in (get_or parts i d).edges (get_or parts i d).sums) so_far.0 ∙
       sym (ap terms_in_all (take_more parts i d in_bounds) ∙
       flat_map-append (λ (part : EdgeSums). terms_in part.edges part.sums) (take i parts) (get_or parts i d ∷ []) ∙
-      ap (λ l. terms_in_all (take i parts) ++ l) (append-nil (terms_in (get_or parts i d).edges (get_or parts i d).sums))),
-  rw pushed (All-append (λ (t : EdgeTerm). FitsSigned w32 t.sum) terms (terms_in (get_or parts i d).edges (get_or parts i d).sums) so_far.1 small),
+      ap (λ l. terms_in_all (take i parts) ++ l)
+          (append-nil (terms_in (get_or parts i d).edges (get_or parts i d).sums))),
+  rw pushed (All-append (λ (t : EdgeTerm). FitsSigned w32 t.sum) terms
+      (terms_in (get_or parts i d).edges (get_or parts i d).sums) so_far.1 small),
 )
 
 pub terms_in-nothing : (terms : List EdgeTerm) → terms ++ terms_in [] [] ≡ terms
@@ -551,7 +620,8 @@ map_length : {X Y : Type 0} (f : X → Y) (xs : List X) → length (map f xs) �
 map_length f [] = refl
 map_length f (x ∷ xs) = ap suc (map_length f xs)
 
-pub joining_at : {X : Type 0} (f : X → EdgeSums) (xs : List X) (i : ℕ) (x : X) (terms grown : List EdgeTerm) → i < length xs →
+pub joining_at : {X : Type 0} (f : X → EdgeSums) (xs : List X) (i : ℕ) (x : X) (terms grown : List EdgeTerm) →
+    i < length xs →
     x ≡ get_or xs i x → terms ≡ terms_in_all (take i (map f xs)) × AreSmall terms →
     grown ≡ terms ++ terms_in (f x).edges (f x).sums → AreSmall (terms_in (f x).edges (f x).sums) →
     grown ≡ terms_in_all (take (i + 1) (map f xs)) × AreSmall grown
@@ -563,4 +633,5 @@ joining_at f xs i x terms grown in_bounds is so_far pushed small =
 
 pub joining_done : {X : Type 0} (f : X → EdgeSums) (xs : List X) (i : ℕ) (terms : List EdgeTerm) → length xs ≤ i →
     terms ≡ terms_in_all (take i (map f xs)) → terms ≡ terms_in_all (map f xs)
-joining_done f xs i terms past so_far = so_far ∙ ap terms_in_all (take_all i (map f xs) (omega (arith, map_length f xs)))
+joining_done f xs i terms past so_far =
+    so_far ∙ ap terms_in_all (take_all i (map f xs) (omega (arith, map_length f xs)))

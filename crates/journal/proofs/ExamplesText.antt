@@ -4,7 +4,11 @@ use Rattle.std.specs.Fmt.{digits}
 use Rattle.std.specs.List.{join_with_byte}
 use Rattle.hex.specs.Hex.{decode_pairs, encode_with}
 use Rattle.geom_core.specs.declared.digests.Digest32.{Digest32}
-use Rattle.journal.specs.Grammar.{journal_of, number_of, digest_of, single_number_of, frame_and_pages_of, pages_until_missing_of, settle_of, take_of, install_of, fail_of, spoilt_digest_of, spoilt_grammar_of, spoilt_short_of, spoilt_of, spoil_of, event_without_list_of, event_of, entry_of, layout_of, with_upper, with_entry, with_line, with_all_uppers}
+use Rattle.journal.specs.Grammar.{
+  journal_of, number_of, digest_of, single_number_of, frame_and_pages_of, pages_until_missing_of, settle_of, take_of,
+  install_of, fail_of, spoilt_digest_of, spoilt_grammar_of, spoilt_short_of, spoilt_of, spoil_of, event_without_list_of,
+  event_of, entry_of, layout_of, with_upper, with_entry, with_line, with_all_uppers,
+}
 use Rattle.journal.specs.FieldNumber.{number_in}
 use Rattle.journal.specs.LineResult.{line_result}
 use Rattle.journal.specs.Spelling.{journal_bytes}
@@ -12,13 +16,17 @@ use Rattle.journal.specs.declared.numbers.Field.TheVariants.{Number, Dash}
 use Rattle.journal.specs.declared.reading.LineResult.TheVariants.{Comment, Accepted, Bad}
 use Rattle.journal.specs.declared.entries.Entry.{Entry}
 use Rattle.journal.specs.declared.entries.Spoilt.TheVariants.{Digest, Grammar, Short}
-use Rattle.journal.specs.declared.entries.What.TheVariants.{Pin, Settle, Ask, Narrow, Unpin, Take, Install, Fail, Spoil, Starve, Full, Stop}
+use Rattle.journal.specs.declared.entries.What.TheVariants.{
+  Pin, Settle, Ask, Narrow, Unpin, Take, Install, Fail, Spoil, Starve, Full, Stop,
+}
 use Rattle.journal.specs.declared.journals.Journal.{Journal}
 use Rattle.journal.specs.declared.layouts.Layout.{Layout}
 
 -- what the reading of a literal unfolds
 unfoldable reading : ℕ
-unfolding number_of digest_of single_number_of frame_and_pages_of pages_until_missing_of settle_of take_of install_of fail_of spoilt_digest_of spoilt_grammar_of spoilt_short_of spoilt_of spoil_of event_without_list_of event_of entry_of layout_of with_upper with_entry with_line with_all_uppers decode_pairs digits encode_with
+unfolding number_of digest_of single_number_of frame_and_pages_of pages_until_missing_of settle_of take_of install_of
+    fail_of spoilt_digest_of spoilt_grammar_of spoilt_short_of spoilt_of spoil_of event_without_list_of event_of
+    entry_of layout_of with_upper with_entry with_line with_all_uppers decode_pairs digits encode_with
 reading = 0
 
 -- the lines, with an LF between each two and none at the end
@@ -111,7 +119,8 @@ unfolding reading
 layout_alone = refl
 
 -- lines that begin with `#` say nothing, and count
-comments : journal_of (text_of (codes "# by hand" ∷ codes "layout 1 1 1" ∷ codes "#" ∷ codes "1 stop" ∷ [])) ≡ Ok (record { layout = least; entries = record { by = 1; what = Stop } ∷ [] })
+comments : journal_of (text_of (codes "# by hand" ∷ codes "layout 1 1 1" ∷ codes "#" ∷ codes "1 stop" ∷ [])) ≡ Ok
+    (record { layout = least; entries = record { by = 1; what = Stop } ∷ [] })
 unfolding reading
 comments = refl
 
@@ -211,7 +220,8 @@ line_comment : line_result None (codes "# layout 1 1 1") ≡ Comment
 unfolding reading line_result
 line_comment = refl
 
-line_accepted : line_result None (codes "layout 1 1 1") ≡ Accepted (record { layout = record least { uppers = [] }; entries = [] })
+line_accepted : line_result None (codes "layout 1 1 1") ≡ Accepted
+    (record { layout = record least { uppers = [] }; entries = [] })
 unfolding reading line_result
 line_accepted = refl
 

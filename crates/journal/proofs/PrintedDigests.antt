@@ -1,5 +1,7 @@
 -- A printed digest reads back.
-use Rattle.std.proofs.Common.{◌≡◌, ◌&&◌, ℕ, ◌/◌, ◌%◌, ◌<◌, List, [], ◌∷◌, Bool, true, Option, None, Some, length, arith, inl, inr, refl, ap, ◌∙◌}
+use Rattle.std.proofs.Common.{
+  ◌≡◌, ◌&&◌, ℕ, ◌/◌, ◌%◌, ◌<◌, List, [], ◌∷◌, Bool, true, Option, None, Some, length, arith, inl, inr, refl, ap, ◌∙◌,
+}
 use Rattle.std.specs.Prelude.{if◌then◌else◌, slice_index}
 use Rattle.std.specs.List.{All, list_all}
 use Rattle.std.specs.Option.{option_map}
@@ -21,12 +23,14 @@ nibble k lt = AllPass-from_list_all is_digest_digit lower_digits refl k 0 lt
 both_pass : (a b c : Bool) → a ≡ true → b ≡ true → c ≡ true → (a && (b && c)) ≡ true
 both_pass a b c d e f = grind (arith, d, e, f)
 
-pub digits_encode : (bytes : List ℕ) → All (λ byte. byte < 256) bytes → list_all is_digest_digit (encode_lower bytes) ≡ true
+pub digits_encode : (bytes : List ℕ) → All (λ byte. byte < 256) bytes →
+    list_all is_digest_digit (encode_lower bytes) ≡ true
 unfolding encode_with
 digits_encode [] h = refl
 digits_encode (byte ∷ rest) h =
     let lt = All-head (λ byte. byte < 256) byte rest h in
-    both_pass _ _ _ (nibble (byte / 16) (omega (arith, lt))) (nibble (byte % 16) (omega arith)) (digits_encode rest (All-tail (λ byte. byte < 256) byte rest h))
+    both_pass _ _ _ (nibble (byte / 16) (omega (arith, lt))) (nibble (byte % 16) (omega arith))
+        (digits_encode rest (All-tail (λ byte. byte < 256) byte rest h))
 
 are_bytes : (bytes : List ℕ) → All (λ byte. byte < 256) bytes → IsBytes bytes
 are_bytes bytes h i =
@@ -42,5 +46,7 @@ digest_from digits decoded = if digits then option_map (λ bytes. record { bytes
 pub digest_encode : (digest : Digest32) → IsDigest digest → digest_of (encode_lower digest.bytes) ≡ Some digest
 unfolding digest_of
 digest_encode digest h =
-    ap (λ digits. digest_from digits (result_ok (decode_sized (encode_lower digest.bytes) 32))) (digits_encode digest.bytes h.1)
-    ∙ ap (λ decoded. digest_from true (result_ok decoded)) (decode_sized-encode_lower digest.bytes 32 h.0 (are_bytes digest.bytes h.1))
+    ap (λ digits. digest_from digits (result_ok (decode_sized (encode_lower digest.bytes) 32)))
+        (digits_encode digest.bytes h.1)
+    ∙ ap (λ decoded. digest_from true (result_ok decoded))
+        (decode_sized-encode_lower digest.bytes 32 h.0 (are_bytes digest.bytes h.1))

@@ -12,13 +12,17 @@ use Rattle.geom_core.specs.declared.digests.Digest32.{Digest32}
 use Rattle.journal.proofs.PrintedDigests.{digits_encode}
 use Rattle.journal.proofs.PrintedFields.{IsPlain, IsPlainLine}
 use Rattle.journal.specs.Grammar.{is_digest_digit}
-use Rattle.journal.specs.Spelling.{entry_fields, layout_fields, list_fields, number_or_dash, spoilt_fields, event_fields}
+use Rattle.journal.specs.Spelling.{
+  entry_fields, layout_fields, list_fields, number_or_dash, spoilt_fields, event_fields,
+}
 use Rattle.journal.specs.Typed.{Is32, IsDigest, IsTyped, IsTypedSpoilt, IsTypedWhat}
 use Rattle.journal.specs.declared.entries.Entry.{Entry}
 use Rattle.journal.specs.declared.entries.Spoilt.{Spoilt}
 use Rattle.journal.specs.declared.entries.Spoilt.TheVariants.{Digest, Grammar, Short}
 use Rattle.journal.specs.declared.entries.What.{What}
-use Rattle.journal.specs.declared.entries.What.TheVariants.{Pin, Settle, Ask, Narrow, Unpin, Take, Install, Fail, Spoil, Starve, Full, Stop}
+use Rattle.journal.specs.declared.entries.What.TheVariants.{
+  Pin, Settle, Ask, Narrow, Unpin, Take, Install, Fail, Spoil, Starve, Full, Stop,
+}
 use Rattle.journal.specs.declared.layouts.Layout.{Layout}
 
 -- a field, and several
@@ -41,7 +45,8 @@ passes : (byte : ℕ) → nat_le 36 byte ≡ true → IsPlain byte
 passes byte e = grind arith
 
 word : (bytes : List ℕ) → list_all (nat_le 36) bytes ≡ true → Plain bytes
-word bytes e = All-weaker (λ byte. nat_le 36 byte ≡ true) IsPlain passes bytes (AllPass-from_list_all (nat_le 36) bytes e)
+word bytes e =
+    All-weaker (λ byte. nat_le 36 byte ≡ true) IsPlain passes bytes (AllPass-from_list_all (nat_le 36) bytes e)
 
 digit : (byte : ℕ) → is_digest_digit byte ≡ true → IsPlain byte
 digit byte e = grind arith
@@ -53,7 +58,8 @@ hex digest h =
 
 number : (n : ℕ) → n < 2 ^ 64 → Plain (decimal n)
 number n fits =
-    All-from_get_or IsPlain (decimal n) 0 (λ i lt. let range = digit_at (decimal n) i (decimal_is_IsNumeral n fits).0.1 lt in omega (arith, range))
+    All-from_get_or IsPlain (decimal n) 0 (λ i lt. let range =
+        digit_at (decimal n) i (decimal_is_IsNumeral n fits).0.1 lt in omega (arith, range))
 
 number_32 : (n : ℕ) → Is32 n → Plain (decimal n)
 number_32 n h = number n (omega (arith, h))
@@ -84,12 +90,14 @@ what (Settle frame pages missing) h = (
     number_32 frame h.0,
     (
       word (codes "pages") refl,
-      plains_append (list_fields pages) (codes "missing" ∷ list_fields missing) (list pages h.1) (word (codes "missing") refl, list missing h.2),
+      plains_append (list_fields pages) (codes "missing" ∷ list_fields missing) (list pages h.1)
+          (word (codes "missing") refl, list missing h.2),
     ),
   ),
 )
 what (Ask frame pages) h = (word (codes "ask") refl, (number_32 frame h.0, (word (codes "pages") refl, list pages h.1)))
-what (Narrow frame pages) h = (word (codes "narrow") refl, (number_32 frame h.0, (word (codes "pages") refl, list pages h.1)))
+what (Narrow frame pages) h =
+    (word (codes "narrow") refl, (number_32 frame h.0, (word (codes "pages") refl, list pages h.1)))
 what (Unpin frame) h = (word (codes "unpin") refl, (number_32 frame h, tt))
 what (Take frame page victim) h =
     (word (codes "take") refl, (optional frame h.0, (number_32 page h.1, (optional victim h.2, tt))))
@@ -106,13 +114,15 @@ pub entry_plain : (entry : Entry) → IsTyped entry → IsPlainLine (entry_field
 entry_plain entry h = all_plain (entry_fields entry) (number_32 entry.by h.0, what entry.what h.1)
 
 -- the line of a layout
-pub layout_plain : (layout : Layout) → Is32 layout.pages → Is32 layout.roots → Is32 layout.slots → IsPlainLine (layout_fields layout)
+pub layout_plain : (layout : Layout) → Is32 layout.pages → Is32 layout.roots → Is32 layout.slots →
+    IsPlainLine (layout_fields layout)
 layout_plain layout p r s =
     all_plain (layout_fields layout)
     (word (codes "layout") refl, (number_32 layout.pages p, (number_32 layout.roots r, (number_32 layout.slots s, tt))))
 
 -- the line of a page's uppers
-pub upper_plain : (page upper : ℕ) (uppers : List ℕ) → Is32 page → All Is32 (upper ∷ uppers) → IsPlainLine (codes "upper" ∷ decimal page ∷ decimal upper ∷ map decimal uppers)
+pub upper_plain : (page upper : ℕ) (uppers : List ℕ) → Is32 page → All Is32 (upper ∷ uppers) →
+    IsPlainLine (codes "upper" ∷ decimal page ∷ decimal upper ∷ map decimal uppers)
 upper_plain page upper uppers p h =
     all_plain (codes "upper" ∷ decimal page ∷ decimal upper ∷ map decimal uppers)
     (word (codes "upper") refl, (number_32 page p, numbers (upper ∷ uppers) h))

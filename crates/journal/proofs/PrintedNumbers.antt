@@ -1,5 +1,7 @@
 -- A printed number and a printed digest read back.
-use Rattle.std.proofs.Common.{◌≡◌, ◌==◌, ◌&&◌, ℕ, ◌<◌, ◌^◌, List, Bool, not, true, false, None, Some, codes, length, arith, inl, inr, refl, ap, ◌∙◌}
+use Rattle.std.proofs.Common.{
+  ◌≡◌, ◌==◌, ◌&&◌, ℕ, ◌<◌, ◌^◌, List, Bool, not, true, false, None, Some, codes, length, arith, inl, inr, refl, ap, ◌∙◌,
+}
 use Rattle.std.specs.Prelude.{nat_lt, slice_index}
 use Rattle.std.specs.Fmt.{decimal}
 use Rattle.std.specs.Str.{bytes_eq}
@@ -44,14 +46,16 @@ pub number_decimal : (limit n : ℕ) → n < limit → n < 2 ^ 64 → number_of 
 number_decimal limit n lt fits =
     number_is limit (decimal n) (numeral_decimal n fits) ∙ below_some limit n _ (decimal_is_IsNumeral n fits).1 lt
 
-contrary : (n : ℕ) (b : Bool) (word : List ℕ) → n < 2 ^ 64 → number_of (2 ^ 64) word ≡ None → (b ≡ true → decimal n ≡ word) → b ≡ false
+contrary : (n : ℕ) (b : Bool) (word : List ℕ) → n < 2 ^ 64 → number_of (2 ^ 64) word ≡ None →
+    (b ≡ true → decimal n ≡ word) → b ≡ false
 contrary n true word fits none same =
     let some = number_decimal (2 ^ 64) n fits fits in
     let is = ap (number_of (2 ^ 64)) (same refl) in cc
 contrary n false word fits none same = refl
 
 -- a printed number is no word that spells no number
-pub decimal_not : (n : ℕ) (word : List ℕ) → n < 2 ^ 64 → number_of (2 ^ 64) word ≡ None → bytes_eq (decimal n) word ≡ false
+pub decimal_not : (n : ℕ) (word : List ℕ) → n < 2 ^ 64 → number_of (2 ^ 64) word ≡ None →
+    bytes_eq (decimal n) word ≡ false
 decimal_not n word fits none = contrary n _ word fits none (bytes_eq-Decides (decimal n) word).0
 
 pub dash_spells_none : number_of (2 ^ 64) (codes "-") ≡ None

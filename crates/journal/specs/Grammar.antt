@@ -1,5 +1,8 @@
 -- The texts that spell a journal, and the first line outside the grammar of another text.
-use Rattle.std.specs.Prelude.{ℕ, ◌+◌, ◌-◌, ◌^◌, ◌==◌, ◌&&◌, ◌||◌, not, nat_le, nat_lt, Bool, true, false, if◌then◌else◌, List, [], ◌∷◌, ◌++◌, Option, None, Some, Result, Ok, Err, length, replicate, slice_index, codes}
+use Rattle.std.specs.Prelude.{
+  ℕ, ◌+◌, ◌-◌, ◌^◌, ◌==◌, ◌&&◌, ◌||◌, not, nat_le, nat_lt, Bool, true, false, if◌then◌else◌, List, [], ◌∷◌, ◌++◌,
+  Option, None, Some, Result, Ok, Err, length, replicate, slice_index, codes,
+}
 use Rattle.std.specs.List.{slice_split, onto_first, list_all}
 use Rattle.std.specs.Option.{option_map, option_map_or}
 use Rattle.std.specs.Result.{result_ok}
@@ -13,7 +16,9 @@ use Rattle.journal.specs.declared.entries.Entry.{Entry}
 use Rattle.journal.specs.declared.entries.Spoilt.{Spoilt}
 use Rattle.journal.specs.declared.entries.Spoilt.TheVariants.{Digest, Grammar, Short}
 use Rattle.journal.specs.declared.entries.What.{What}
-use Rattle.journal.specs.declared.entries.What.TheVariants.{Pin, Settle, Ask, Narrow, Unpin, Take, Install, Fail, Spoil, Starve, Full, Stop}
+use Rattle.journal.specs.declared.entries.What.TheVariants.{
+  Pin, Settle, Ask, Narrow, Unpin, Take, Install, Fail, Spoil, Starve, Full, Stop,
+}
 use Rattle.journal.specs.declared.journals.Journal.{Journal}
 use Rattle.journal.specs.declared.layouts.Layout.{Layout}
 use Rattle.journal.specs.Layout.{ascends}
@@ -46,7 +51,8 @@ fields_of line = slice_split (λ byte. byte == 32) line
 -- a numeral: digits, at least one, and no zero before another digit
 abbrev pub is_numeral : List ℕ → Bool
 is_numeral field =
-    list_all is_ascii_digit field && nat_lt 0 (length field) && not (slice_index field 0 == 48 && nat_lt 1 (length field))
+    list_all is_ascii_digit field && nat_lt 0 (length field) && not
+        (slice_index field 0 == 48 && nat_lt 1 (length field))
 
 -- the number if it is below `limit`, else none
 abbrev pub below : ℕ → ℕ → Option ℕ
@@ -283,7 +289,9 @@ with_upper journal fields = do
   page ← number_of journal.layout.pages field
   listed ← some_numbers_of page rest
   if is_empty journal.entries && nat_le (length journal.layout.uppers) page && ascends listed
-      then Some (record journal { layout = record journal.layout { uppers = up_to journal.layout.uppers page ++ listed ∷ [] } })
+      then Some
+          (record journal { layout = record journal.layout
+          { uppers = up_to journal.layout.uppers page ++ listed ∷ [] } })
       else None
 
 -- a journal with the entry of a line
@@ -314,7 +322,8 @@ abbrev pub read_from : Option Journal → ℕ → List (List ℕ) → Result Jou
 read_from so_far line [] = at_end so_far line
 read_from so_far line (text ∷ rest) =
     if is_comment text then read_from so_far (line + 1) rest
-    else option_map_or (λ journal. read_from (Some journal) (line + 1) rest) (with_line so_far (fields_of text)) (Err line)
+    else option_map_or (λ journal. read_from (Some journal) (line + 1) rest) (with_line so_far (fields_of text))
+        (Err line)
 
 -- the journal that a text spells, or the number, from 1, of its first line outside the grammar
 abbrev pub journal_of : List ℕ → Result Journal ℕ

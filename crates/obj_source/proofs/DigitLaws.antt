@@ -14,11 +14,14 @@ pub digit_is : (c : ℕ) → is_ascii_digit c ≡ true → (digit_value c ≡ c 
 digit_is c e = grind (arith, common_steps, nat_tests)
 
 -- one digit more
-pub digits_step : (word : List ℕ) (i : ℕ) → i < length word → is_ascii_digit (get_or word i 0) ≡ true → digits_value 10 (take (i + 1) word) ≡ digits_value 10 (take i word) * 10 + (get_or word i 0 - 48)
+pub digits_step : (word : List ℕ) (i : ℕ) → i < length word → is_ascii_digit (get_or word i 0) ≡ true →
+    digits_value 10 (take (i + 1) word) ≡ digits_value 10 (take i word) * 10 + (get_or word i 0 - 48)
 digits_step word i here digit =
-    digits_value_more 10 word i here ∙ ap (λ (d : ℕ). digits_value 10 (take i word) * 10 + d) (digit_is (get_or word i 0) digit).0
+    digits_value_more 10 word i here ∙ ap (λ (d : ℕ). digits_value 10 (take i word) * 10 + d)
+        (digit_is (get_or word i 0) digit).0
 
-pub all_digits_step : (word : List ℕ) (i : ℕ) → i < length word → list_all is_ascii_digit (take i word) ≡ true → is_ascii_digit (get_or word i 0) ≡ true → list_all is_ascii_digit (take (i + 1) word) ≡ true
+pub all_digits_step : (word : List ℕ) (i : ℕ) → i < length word → list_all is_ascii_digit (take i word) ≡ true →
+    is_ascii_digit (get_or word i 0) ≡ true → list_all is_ascii_digit (take (i + 1) word) ≡ true
 all_digits_step word i here so_far digit = rw (list_all_more is_ascii_digit word i 0 here, so_far) digit
 
 -- the value has no more digits than the word
@@ -27,6 +30,7 @@ digits_below_step number digit i small below =
     let more : 10 ^ (i + 1) ≡ 10 ^ i * 10 = grind (arith, common_steps) in
     omega (arith, more)
 
-pub digits_fit : (number digit i n most : ℕ) → number < 10 ^ i → digit < 10 → i < n → n ≤ most → number * 10 + digit < 10 ^ most
+pub digits_fit : (number digit i n most : ℕ) → number < 10 ^ i → digit < 10 → i < n → n ≤ most →
+    number * 10 + digit < 10 ^ most
 digits_fit number digit i n most small below here short =
     omega (arith, digits_below_step number digit i small below, power_small (i + 1) most (omega arith))

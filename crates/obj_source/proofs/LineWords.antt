@@ -1,5 +1,8 @@
 -- The words of a line, when a byte or a span of bytes more stands at its front.
-use Rattle.std.proofs.Common.{◌≡◌, ◌≢◌, ℕ, zero, suc, ◌+◌, ◌≤◌, Bool, true, false, cond, ◌||◌, List, [], ◌∷◌, ◌++◌, length, take, get_or, refl, ap, sym, subst, ◌∙◌, append_assoc, length-append, arith, one-add}
+use Rattle.std.proofs.Common.{
+  ◌≡◌, ◌≢◌, ℕ, zero, suc, ◌+◌, ◌≤◌, Bool, true, false, cond, ◌||◌, List, [], ◌∷◌, ◌++◌, length, take, get_or, refl, ap,
+  sym, subst, ◌∙◌, append_assoc, length-append, arith, one-add,
+}
 use Rattle.std.specs.List.{All, filter, slice_split, before_first}
 use Rattle.std.proofs.lemmas.List.{append-nil}
 use Rattle.std.proofs.lemmas.List.Elements.{All-head, All-tail, All-cons, All-nil, All-push}
@@ -34,22 +37,26 @@ no_hash : (word : List ℕ) → IsInside word → All (λ b. is_hash b ≡ false
 no_hash word inside = λ k d h. or-right (is_blank (get_or word k d)) _ (inside k d h)
 
 -- a list stands before its first element that passes
-before_first-cons : (p : ℕ → Bool) (b : ℕ) (rest : List ℕ) → p b ≡ false → before_first p (b ∷ rest) ≡ b ∷ before_first p rest
+before_first-cons : (p : ℕ → Bool) (b : ℕ) (rest : List ℕ) → p b ≡ false →
+    before_first p (b ∷ rest) ≡ b ∷ before_first p rest
 before_first-cons p b rest e = rw e (rw one-add refl)
 
-before_first-append : (p : ℕ → Bool) (front rest : List ℕ) → All (λ b. p b ≡ false) front → before_first p (front ++ rest) ≡ front ++ before_first p rest
+before_first-append : (p : ℕ → Bool) (front rest : List ℕ) → All (λ b. p b ≡ false) front →
+    before_first p (front ++ rest) ≡ front ++ before_first p rest
 before_first-append p [] rest none = refl
 before_first-append p (b ∷ front) rest none =
     before_first-cons p b (front ++ rest) (All-head (λ b. p b ≡ false) b front none)
     ∙ ap (λ l. b ∷ l) (before_first-append p front rest (All-tail (λ b. p b ≡ false) b front none))
 
 -- a CR that isn't the last byte stays
-without_return-cons : (b : ℕ) (rest : List ℕ) → is_return b ≡ false → without_return (b ∷ rest) ≡ b ∷ without_return rest
+without_return-cons : (b : ℕ) (rest : List ℕ) → is_return b ≡ false →
+    without_return (b ∷ rest) ≡ b ∷ without_return rest
 unfolding without_return
 without_return-cons b [] e = rw e
 without_return-cons b (c ∷ rest) e = refl
 
-without_return-before : (front : List ℕ) (b : ℕ) (rest : List ℕ) → is_return b ≡ false → without_return (front ++ b ∷ rest) ≡ front ++ b ∷ without_return rest
+without_return-before : (front : List ℕ) (b : ℕ) (rest : List ℕ) → is_return b ≡ false →
+    without_return (front ++ b ∷ rest) ≡ front ++ b ∷ without_return rest
 unfolding without_return
 without_return-before [] b rest e = without_return-cons b rest e
 without_return-before (x ∷ []) b rest e = ap (λ l. x ∷ l) (without_return-cons b rest e)
@@ -59,7 +66,8 @@ without_return-before (x ∷ y ∷ front) b rest e = ap (λ l. x ∷ l) (without
 All-without_return : (P : ℕ → Type 0) (word : List ℕ) → All P word → All P (without_return word)
 unfolding without_return
 All-without_return P [] all = all
-All-without_return P (b ∷ []) all = elim (is_return b) as (λ r. All P (cond r [] (b ∷ []))) [ true ↦ All-nil P | false ↦ all ]
+All-without_return P (b ∷ []) all =
+    elim (is_return b) as (λ r. All P (cond r [] (b ∷ []))) [ true ↦ All-nil P | false ↦ all ]
 All-without_return P (b ∷ c ∷ rest) all =
     All-cons P b (without_return (c ∷ rest)) (All-head P b (c ∷ rest) all)
     (All-without_return P (c ∷ rest) (All-tail P b (c ∷ rest) all))
@@ -67,11 +75,14 @@ All-without_return P (b ∷ c ∷ rest) all =
 pub length-without_return : (word : List ℕ) → length word ≤ length (without_return word) + 1
 unfolding without_return
 length-without_return [] = omega arith
-length-without_return (b ∷ []) = elim (is_return b) as (λ r. length (b ∷ []) ≤ length (cond r [] (b ∷ [])) + 1) [ true ↦ omega arith | false ↦ omega arith ]
+length-without_return (b ∷ []) =
+    elim (is_return b) as (λ r. length (b ∷ []) ≤ length (cond r [] (b ∷ [])) + 1)
+    [ true ↦ omega arith | false ↦ omega arith ]
 length-without_return (b ∷ c ∷ rest) = omega (arith, length-without_return (c ∷ rest))
 
 -- the list up to an element that passes
-before_first-stop : (p : ℕ → Bool) (front : List ℕ) (b : ℕ) (rest : List ℕ) → All (λ b. p b ≡ false) front → p b ≡ true → before_first p (front ++ b ∷ rest) ≡ front
+before_first-stop : (p : ℕ → Bool) (front : List ℕ) (b : ℕ) (rest : List ℕ) → All (λ b. p b ≡ false) front →
+    p b ≡ true → before_first p (front ++ b ∷ rest) ≡ front
 before_first-stop p front b rest none e =
     before_first-append p front (b ∷ rest) none
     ∙ ap (λ l. front ++ l) (rw e refl)
@@ -82,8 +93,11 @@ before_first-none : (p : ℕ → Bool) (all : List ℕ) → All (λ b. p b ≡ f
 before_first-none p all none =
     ap (before_first p) (sym (append-nil all)) ∙ before_first-append p all [] none ∙ append-nil all
 
-filter-first : (word : List ℕ) (words : List (List ℕ)) → filter is_word (word ∷ words) ≡ kept word ++ filter is_word words
-filter-first word words = elim (is_word word) as (λ w. cond w (word ∷ filter is_word words) (filter is_word words) ≡ cond w (word ∷ []) [] ++ filter is_word words) [ true ↦ refl | false ↦ refl ]
+filter-first : (word : List ℕ) (words : List (List ℕ)) →
+    filter is_word (word ∷ words) ≡ kept word ++ filter is_word words
+filter-first word words =
+    elim (is_word word) as (λ w. cond w (word ∷ filter is_word words) (filter is_word words) ≡ cond w
+    (word ∷ []) [] ++ filter is_word words) [ true ↦ refl | false ↦ refl ]
 
 blank_is_no_return : (b : ℕ) → is_blank b ≡ true → is_return b ≡ false
 blank_is_no_return b blank = grind (arith, common_steps, nat_tests)
@@ -92,14 +106,17 @@ blank_is_no_hash : (b : ℕ) → is_blank b ≡ true → is_hash b ≡ false
 blank_is_no_hash b blank = grind (arith, common_steps, nat_tests)
 
 -- a blank ends the word before it
-pub words_of-blank : (word : List ℕ) (b : ℕ) (rest : List ℕ) → IsInside word → is_blank b ≡ true → words_of (word ++ b ∷ rest) ≡ kept word ++ words_of rest
+pub words_of-blank : (word : List ℕ) (b : ℕ) (rest : List ℕ) → IsInside word → is_blank b ≡ true →
+    words_of (word ++ b ∷ rest) ≡ kept word ++ words_of rest
 unfolding words_of
 words_of-blank word b rest inside blank =
-    ap (λ l. filter is_word (slice_split is_blank (before_comment l))) (without_return-before word b rest (blank_is_no_return b blank))
+    ap (λ l. filter is_word (slice_split is_blank (before_comment l)))
+        (without_return-before word b rest (blank_is_no_return b blank))
     ∙ ap (λ l. filter is_word (slice_split is_blank l))
     (before_first-append is_hash word (b ∷ without_return rest) (no_hash word inside)
     ∙ ap (λ l. word ++ l) (before_first-cons is_hash b (without_return rest) (blank_is_no_hash b blank)))
-    ∙ ap (filter is_word) (slice_split_at is_blank word b (before_comment (without_return rest)) (no_blank word inside) blank)
+    ∙ ap (filter is_word) (slice_split_at is_blank word b (before_comment (without_return rest))
+        (no_blank word inside) blank)
     ∙ filter-first word (slice_split is_blank (before_comment (without_return rest)))
 
 -- what stands behind a `#` says nothing
@@ -107,7 +124,8 @@ pub words_of-hash : (word rest : List ℕ) → IsInside word → words_of (word 
 unfolding words_of
 words_of-hash word rest inside =
     ap (λ l. filter is_word (slice_split is_blank (before_comment l))) (without_return-before word 35 rest refl)
-    ∙ ap (λ l. filter is_word (slice_split is_blank l)) (before_first-stop is_hash word 35 (without_return rest) (no_hash word inside) refl)
+    ∙ ap (λ l. filter is_word (slice_split is_blank l))
+        (before_first-stop is_hash word 35 (without_return rest) (no_hash word inside) refl)
     ∙ ap (filter is_word) (slice_split_none is_blank word (no_blank word inside))
 
 -- the last word of a line loses its CR
@@ -126,8 +144,10 @@ pub record HasLongFirst (words : List (List ℕ)) : Type 0 where
   pub parted : words ≡ first ∷ more
   pub long : 2 ≤ length first
 
-kept_long : (word : List ℕ) (more words : List (List ℕ)) → 2 ≤ length word → words ≡ kept word ++ more → HasLongFirst words
-kept_long word more words long e = record { first = word; more = more; parted = e ∙ ap (λ l. l ++ more) (kept-some word (omega arith)); long = long }
+kept_long : (word : List ℕ) (more words : List (List ℕ)) → 2 ≤ length word → words ≡ kept word ++ more →
+    HasLongFirst words
+kept_long word more words long e =
+    record { first = word; more = more; parted = e ∙ ap (λ l. l ++ more) (kept-some word (omega arith)); long = long }
 
 push-inside : (word : List ℕ) (b : ℕ) → IsInside word → parts_words b ≡ false → IsInside (word ++ b ∷ [])
 push-inside word b inside e = All-push (λ b. parts_words b ≡ false) word b inside e
@@ -151,11 +171,13 @@ words_of-long word (b ∷ rest) inside long =
     (words_of-long (word ++ b ∷ []) rest (push-inside word b inside e) (omega (arith, length-append word (b ∷ [])))) in
     byte_cases b (HasLongFirst (words_of (word ++ b ∷ rest)))
     (λ blank. kept_long word (words_of rest) _ (omega arith) (words_of-blank word b rest inside blank))
-    (λ hash. kept_long word [] _ (omega arith) (ap (λ h. words_of (word ++ h ∷ rest)) hash ∙ words_of-hash word rest inside ∙ sym (append-nil (kept word))))
+    (λ hash. kept_long word [] _ (omega arith)
+        (ap (λ h. words_of (word ++ h ∷ rest)) hash ∙ words_of-hash word rest inside ∙ sym (append-nil (kept word))))
     next
 
 -- the CR is the last byte, or there is none
-pub without_return-yes : (word : List ℕ) (m : ℕ) → length word ≡ suc m → get_or word m 0 ≡ 13 → without_return word ≡ take m word
+pub without_return-yes : (word : List ℕ) (m : ℕ) → length word ≡ suc m → get_or word m 0 ≡ 13 →
+    without_return word ≡ take m word
 unfolding without_return
 without_return-yes [] m e last = absurd (omega arith)
 without_return-yes (b ∷ []) zero e last = let r : is_return b ≡ true = eq-eqb b 13 last in rw r
@@ -164,7 +186,8 @@ without_return-yes (b ∷ c ∷ rest) zero e last = absurd (omega arith)
 without_return-yes (b ∷ c ∷ rest) (suc m) e last =
     ap (λ l. b ∷ l) (without_return-yes (c ∷ rest) m (omega arith) last)
 
-pub without_return-no : (word : List ℕ) (m : ℕ) → length word ≡ suc m → get_or word m 0 ≢ 13 → without_return word ≡ word
+pub without_return-no : (word : List ℕ) (m : ℕ) → length word ≡ suc m → get_or word m 0 ≢ 13 →
+    without_return word ≡ word
 unfolding without_return
 without_return-no [] m e last = refl
 without_return-no (b ∷ []) zero e last = let r : is_return b ≡ false = grind (arith, nat_tests) in rw r

@@ -19,17 +19,21 @@ abbrev mesh_of : List Pt → List Tri → MeshSoFar
 mesh_of vertices triangles = record { vertices = vertices; triangles = triangles }
 
 -- a corner without a fault
-pub polygon_joined : (vertices : List Pt) (now before : List Tri) (line place : ℕ) (joined polygon : FanState) (word : List ℕ) (p : Pt) (more : List (List ℕ)) →
+pub polygon_joined : (vertices : List Pt) (now before : List Tri) (line place : ℕ) (joined polygon : FanState)
+    (word : List ℕ) (p : Pt) (more : List (List ℕ)) →
     corner_of vertices place word ≡ Ok p →
-    ((points : List Pt) → with_corners (mesh_of vertices now) joined points ≡ with_corners (mesh_of vertices before) polygon (p ∷ points)) →
+    ((points : List Pt) → with_corners (mesh_of vertices now) joined points ≡ with_corners
+    (mesh_of vertices before) polygon (p ∷ points)) →
     polygon_from (mesh_of vertices now) line (place + 1) (read.Polygon joined) more
     ≡ polygon_from (mesh_of vertices before) line place (read.Polygon polygon) (word ∷ more)
 polygon_joined vertices now before line place joined polygon word p more is_corner same =
     rw is_corner
-    (after_corner (corners_of vertices (place + 1) more) line p (with_corners (mesh_of vertices now) joined) (with_corners (mesh_of vertices before) polygon) same)
+    (after_corner (corners_of vertices (place + 1) more) line p (with_corners (mesh_of vertices now) joined)
+        (with_corners (mesh_of vertices before) polygon) same)
 
 -- the first corner with a fault
-pub polygon_faulty : (vertices : List Pt) (now before : List Tri) (line place : ℕ) (polygon : FanState) (word : List ℕ) (why : ObjWhy) (more : List (List ℕ)) →
+pub polygon_faulty : (vertices : List Pt) (now before : List Tri) (line place : ℕ) (polygon : FanState) (word : List ℕ)
+    (why : ObjWhy) (more : List (List ℕ)) →
     corner_of vertices place word ≡ Err why →
     polygon_from (mesh_of vertices now) line (place + 1) (read.Faulty why) more
     ≡ polygon_from (mesh_of vertices before) line place (read.Polygon polygon) (word ∷ more)

@@ -1,5 +1,8 @@
 -- Steps rounded to whole ones, by their sizes.
-use Rattle.std.proofs.Common.{◌≡◌, ℕ, zero, suc, ◌+◌, ◌-◌, ◌*◌, ◌/◌, ◌^◌, ◌<◌, ◌≤◌, Bool, true, false, ◌&&◌, leb, ℤ, pos, negsuc, neg_ℤ, ◌+ℤ◌, ◌-ℤ◌, ◌*ℤ◌, ◌<ℤ◌, ◌≤ℤ◌, Ok, Err, refl, sym, ap, ◌∙◌, arith}
+use Rattle.std.proofs.Common.{
+  ◌≡◌, ℕ, zero, suc, ◌+◌, ◌-◌, ◌*◌, ◌/◌, ◌^◌, ◌<◌, ◌≤◌, Bool, true, false, ◌&&◌, leb, ℤ, pos, negsuc, neg_ℤ, ◌+ℤ◌, ◌-ℤ◌,
+  ◌*ℤ◌, ◌<ℤ◌, ◌≤ℤ◌, Ok, Err, refl, sym, ap, ◌∙◌, arith,
+}
 use Rattle.std.proofs.lemmas.Int.{ints}
 use mir.Val.{bool_byte}
 use Rattle.geom_core.proofs.FloorLaws.{floor_div-is}
@@ -38,7 +41,8 @@ twice (suc n) = omega (arith, ints)
 low_side : (n d p : ℕ) → 1 ≤ d → 2 * n + d - 1 < p + 2 * d → neg_ℤ (pos p) ≤ℤ (pos 2 *ℤ neg_ℤ (pos n) +ℤ pos d)
 low_side n d p some h = rw twice (omega (arith, ints))
 
-high_side : (n d p : ℕ) → 1 ≤ d → p ≤ 2 * n + d - 1 → (pos 2 *ℤ neg_ℤ (pos n) +ℤ pos d) <ℤ (neg_ℤ (pos p) +ℤ pos (2 * d))
+high_side : (n d p : ℕ) → 1 ≤ d → p ≤ 2 * n + d - 1 →
+    (pos 2 *ℤ neg_ℤ (pos n) +ℤ pos d) <ℤ (neg_ℤ (pos p) +ℤ pos (2 * d))
 high_side n d p some h = rw twice (omega (arith, ints))
 
 pub nearest_negative : (n d : ℕ) → 1 ≤ d → nearest (neg_ℤ (pos n)) d ≡ neg_ℤ (pos ((2 * n + d - 1) / (2 * d)))
@@ -50,7 +54,8 @@ nearest_negative n d some =
     (rw neg_mul_next (high_side n d (m * (2 * d)) some (omega arith)))
 
 -- both by their sizes: a minus rounds a half down in size
-pub nearest_signed : (is_negative : Bool) (n d : ℕ) → 1 ≤ d → signed is_negative ((2 * n + d - bool_byte is_negative) / (2 * d)) ≡ nearest (signed is_negative n) d
+pub nearest_signed : (is_negative : Bool) (n d : ℕ) → 1 ≤ d →
+    signed is_negative ((2 * n + d - bool_byte is_negative) / (2 * d)) ≡ nearest (signed is_negative n) d
 nearest_signed false n d some =
     let same : 2 * n + d - 0 ≡ 2 * n + d = omega arith in
     ap (λ (k : ℕ). pos (k / (2 * d))) same
@@ -72,9 +77,11 @@ below_half n d b h = div-eq_of_lt (omega arith)
 
 nearest_zero : (is_negative : Bool) (n d : ℕ) → 2 * n < d → nearest (signed is_negative n) d ≡ pos 0
 nearest_zero is_negative n d h =
-    sym (nearest_signed is_negative n d (omega arith)) ∙ zero_signed is_negative _ (below_half n d (bool_byte is_negative) h)
+    sym (nearest_signed is_negative n d (omega arith)) ∙
+        zero_signed is_negative _ (below_half n d (bool_byte is_negative) h)
 
-pub times_low_power : (is_negative : Bool) (n : ℕ) (power : ℤ) → power <ℤ negsuc 22 → n < 2 ^ 76 → times_power (signed is_negative n) power ≡ pos 0
+pub times_low_power : (is_negative : Bool) (n : ℕ) (power : ℤ) → power <ℤ negsuc 22 → n < 2 ^ 76 →
+    times_power (signed is_negative n) power ≡ pos 0
 times_low_power is_negative n (pos k) low small = absurd (omega (arith, ints))
 times_low_power is_negative n (negsuc k) low small =
     let long : 23 ≤ k = omega (arith, ints) in
@@ -93,14 +100,16 @@ in_grid_far is_negative n far =
     let outside : leb n MAX_COORDINATE ≡ false = grind (arith, nat_tests) in
     rw (signed-size is_negative n, outside)
 
-pub in_grid_near : (is_negative : Bool) (n : ℕ) → n ≤ MAX_COORDINATE → in_grid (signed is_negative n) ≡ Ok (signed is_negative n)
+pub in_grid_near : (is_negative : Bool) (n : ℕ) → n ≤ MAX_COORDINATE →
+    in_grid (signed is_negative n) ≡ Ok (signed is_negative n)
 in_grid_near is_negative n near =
     let inside : leb n MAX_COORDINATE ≡ true = grind (arith, nat_tests) in
     rw (signed-size is_negative n, inside)
 
 -- a power so high takes any step out of the grid
 
-pub times_high_power : (is_negative : Bool) (n : ℕ) (power : ℤ) → pos 6 <ℤ power → 1 ≤ n → in_grid (times_power (signed is_negative n) power) ≡ Err Range
+pub times_high_power : (is_negative : Bool) (n : ℕ) (power : ℤ) → pos 6 <ℤ power → 1 ≤ n →
+    in_grid (times_power (signed is_negative n) power) ≡ Err Range
 times_high_power is_negative n (pos k) high some =
     let long : 7 ≤ k = omega (arith, ints) in
     let size : 10 ^ 7 ≤ 10 ^ k = power_small 7 k long in
@@ -117,7 +126,8 @@ none_times_power is_negative n (negsuc k) e =
     let size : 1 ≤ 10 ^ suc k = power_some (suc k) in
     nearest_zero is_negative n (10 ^ suc k) (omega arith)
 
-pub coordinate_from_none : (scale : ℕ) (is_negative : Bool) (digits behind : ℕ) (exponent : ℤ) → digits ≡ 0 → coordinate_from scale is_negative digits behind exponent ≡ Ok (pos 0)
+pub coordinate_from_none : (scale : ℕ) (is_negative : Bool) (digits behind : ℕ) (exponent : ℤ) → digits ≡ 0 →
+    coordinate_from scale is_negative digits behind exponent ≡ Ok (pos 0)
 coordinate_from_none scale is_negative digits behind exponent e =
     let none : digits * scale ≡ 0 = rw e (zero-mul _) in
     rw (none_times_power is_negative (digits * scale) (exponent -ℤ pos behind) none) refl
@@ -137,6 +147,9 @@ steps_small digits scale few coarse =
     omega arith
 
 -- a point so far to the right makes 0 of any number
-pub coordinate_from_far : (scale : ℕ) (is_negative : Bool) (digits behind : ℕ) (exponent : ℤ) → digits < 10 ^ 18 → scale ≤ MAX_STEPS_PER_UNIT → exponent ≤ℤ pos 9999 → 20000 < behind → coordinate_from scale is_negative digits behind exponent ≡ Ok (pos 0)
+pub coordinate_from_far : (scale : ℕ) (is_negative : Bool) (digits behind : ℕ) (exponent : ℤ) → digits < 10 ^ 18 →
+    scale ≤ MAX_STEPS_PER_UNIT → exponent ≤ℤ pos 9999 → 20000 < behind →
+    coordinate_from scale is_negative digits behind exponent ≡ Ok (pos 0)
 coordinate_from_far scale is_negative digits behind exponent few coarse high far =
-    rw (times_low_power is_negative (digits * scale) (exponent -ℤ pos behind) (omega (arith, ints)) (steps_small digits scale few coarse)) refl
+    rw (times_low_power is_negative (digits * scale) (exponent -ℤ pos behind) (omega (arith, ints))
+        (steps_small digits scale few coarse)) refl

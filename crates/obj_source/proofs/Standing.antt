@@ -1,5 +1,8 @@
 -- How a builder goes on standing for its line, word by word.
-use Rattle.std.proofs.Common.{◌≡◌, ◌≤◌, ◌==◌, ℕ, ◌+◌, Option, Err, Result, Ok, false, append-nil, arith, length, List, [], ◌∷◌, ◌++◌, refl, sym, ap, ◌∙◌, append_assoc}
+use Rattle.std.proofs.Common.{
+  ◌≡◌, ◌≤◌, ◌==◌, ℕ, ◌+◌, Option, Err, Result, Ok, false, append-nil, arith, length, List, [], ◌∷◌, ◌++◌, refl, sym, ap,
+  ◌∙◌, append_assoc,
+}
 use Rattle.geom_core.specs.declared.points.Pt.{Pt}
 use Rattle.obj_source.specs.declared.mesh_builder.MeshBuilder.{MeshBuilder}
 use Rattle.obj_source.specs.declared.faults.ObjFault.{ObjFault}
@@ -47,7 +50,8 @@ stands_settled d mesh_so_far line words more settled stands = record {
 }
 
 -- a line that is passed over, and one whose numbers all came
-pub settled_passed : (d : MeshBuilder) → d.line_state ≡ state.Passed → (rest : List (List ℕ)) → builder_result_from d rest ≡ builder_result_from d []
+pub settled_passed : (d : MeshBuilder) → d.line_state ≡ state.Passed → (rest : List (List ℕ)) →
+    builder_result_from d rest ≡ builder_result_from d []
 unfolding line_result_from
 settled_passed d passed rest = rw passed refl
 
@@ -61,7 +65,8 @@ settled_vertex d v is_vertex settled rest = rw is_vertex (rw (settled d.scale re
 two_bytes : (first : List ℕ) → 2 ≤ length first → (length first == 1) ≡ false
 two_bytes first two = grind arith
 
-passed_over : (scale : ℕ) (mesh_so_far : MeshSoFar) (line : ℕ) (first : List ℕ) (more : List (List ℕ)) → 2 ≤ length first →
+passed_over : (scale : ℕ) (mesh_so_far : MeshSoFar) (line : ℕ) (first : List ℕ) (more : List (List ℕ)) →
+    2 ≤ length first →
     with_line scale mesh_so_far line (first ∷ more) ≡ Ok mesh_so_far
 unfolding with_line
 passed_over scale mesh_so_far line first more two = rw (two_bytes first two) refl
@@ -74,11 +79,14 @@ unfolding line_result_from with_line
 started d begun = rw begun refl
 
 -- the mesh so far is that of the lines before, if no word came
-said_begun : (d : MeshBuilder) (mesh_so_far : MeshSoFar) (line : ℕ) → Stands d mesh_so_far line [] → so_far d ≡ mesh_so_far
+said_begun : (d : MeshBuilder) (mesh_so_far : MeshSoFar) (line : ℕ) → Stands d mesh_so_far line [] →
+    so_far d ≡ mesh_so_far
 unfolding with_line
-said_begun d mesh_so_far line stands = ok_is (so_far d) mesh_so_far (sym (started d (stands.begun refl)) ∙ stands.continues [])
+said_begun d mesh_so_far line stands =
+    ok_is (so_far d) mesh_so_far (sym (started d (stands.begun refl)) ∙ stands.continues [])
 
-passed_from : (d : MeshBuilder) → d.line_state ≡ state.Passed → (more : List (List ℕ)) → builder_result_from d more ≡ Ok (so_far d)
+passed_from : (d : MeshBuilder) → d.line_state ≡ state.Passed → (more : List (List ℕ)) →
+    builder_result_from d more ≡ Ok (so_far d)
 unfolding line_result_from
 passed_from d passed more = rw passed refl
 
@@ -89,13 +97,17 @@ unfolding line_result_from
 stands_passed old new mesh_so_far line first two passed same_line same_scale same_said stands = record {
   numbered = same_line ∙ stands.numbered;
   begun = λ none. absurd cc;
-  continues = λ more. (passed_from new passed more) ∙ (ap Ok (same_said ∙ said_begun old mesh_so_far line stands) ∙ sym (passed_over new.scale mesh_so_far line first more two));
+  continues =
+      λ more. (passed_from new passed more) ∙ (ap Ok (same_said ∙ said_begun old mesh_so_far line stands) ∙
+      sym (passed_over new.scale mesh_so_far line first more two));
 }
 
 -- a line to which no word is added
-pub ended_line : (d : MeshBuilder) (mesh_so_far : MeshSoFar) (line : ℕ) (words : List (List ℕ)) → Stands d mesh_so_far line words →
+pub ended_line : (d : MeshBuilder) (mesh_so_far : MeshSoFar) (line : ℕ) (words : List (List ℕ)) →
+    Stands d mesh_so_far line words →
     with_line d.scale mesh_so_far line words ≡ builder_result_from d []
-ended_line d mesh_so_far line words stands = sym (stands.continues [] ∙ ap (with_line d.scale mesh_so_far line) (append-nil words))
+ended_line d mesh_so_far line words stands =
+    sym (stands.continues [] ∙ ap (with_line d.scale mesh_so_far line) (append-nil words))
 
 -- the line that ended gave what the builder has, and the next one is begun
 pub next_line : (old new : MeshBuilder) (end : Option Pt) (mesh_so_far : MeshSoFar) (line : ℕ) (words : List (List ℕ)) →
@@ -110,5 +122,6 @@ next_line old new end mesh_so_far line words ended same begun next stands = (
 
 -- a line with a fault
 pub faulty_line : (d : MeshBuilder) (fault : ObjFault) (mesh_so_far : MeshSoFar) (line : ℕ) (words : List (List ℕ)) →
-    builder_result_from d [] ≡ with_end (so_far d) (Err fault) → Stands d mesh_so_far line words → with_line d.scale mesh_so_far line words ≡ Err fault
+    builder_result_from d [] ≡ with_end (so_far d) (Err fault) → Stands d mesh_so_far line words →
+    with_line d.scale mesh_so_far line words ≡ Err fault
 faulty_line d fault mesh_so_far line words ended stands = ended_line d mesh_so_far line words stands ∙ ended

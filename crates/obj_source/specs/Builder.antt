@@ -18,4 +18,5 @@ builder_result_from d more = line_result_from d.scale (so_far d) d.line d.line_s
 pub record Stands (d : MeshBuilder) (mesh_so_far : MeshSoFar) (line : ℕ) (words : List (List ℕ)) : Type 0 where
   pub numbered : d.line ≡ line
   pub begun : words ≡ [] → d.line_state ≡ state.Start
-  pub continues : (more : List (List ℕ)) → builder_result_from d more ≡ with_line d.scale mesh_so_far line (words ++ more)
+  pub continues : (more : List (List ℕ)) →
+      builder_result_from d more ≡ with_line d.scale mesh_so_far line (words ++ more)

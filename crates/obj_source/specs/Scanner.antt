@@ -31,8 +31,10 @@ ends_token _ b = ends_word b
 -- `begun`: so whatever follows, it is read as if those bytes stood before it.
 pub record LinesRead (scale : ℕ) (text : List ℕ) (mesh_so_far : MeshSoFar) (line : ℕ) (begun : List ℕ) : Type 0 where
   pub one_line : All (λ b. is_line_feed b ≡ false) begun
-  pub all : (rest : List ℕ) → read_lines scale nothing 1 (lines_of (text ++ rest)) ≡ read_lines scale mesh_so_far line (lines_of (begun ++ rest))
-  pub ended : (rest : List ℕ) → read_lines scale nothing 1 (ended_lines (text ++ rest)) ≡ read_lines scale mesh_so_far line (ended_lines (begun ++ rest))
+  pub all : (rest : List ℕ) → read_lines scale nothing 1 (lines_of (text ++ rest)) ≡ read_lines scale mesh_so_far line
+      (lines_of (begun ++ rest))
+  pub ended : (rest : List ℕ) → read_lines scale nothing 1
+      (ended_lines (text ++ rest)) ≡ read_lines scale mesh_so_far line (ended_lines (begun ++ rest))
 
 -- The words of a line that begins with the bytes `begun` are these, and those of `word` with what follows.
 pub record WordsRead (begun word : List ℕ) (words : List (List ℕ)) : Type 0 where
@@ -71,7 +73,8 @@ pub record IsReady (builder : MeshBuilder) (line corners : ℕ) : Type 0 where
   pub corners_fit : corner_count builder.line_state ≤ corners
 
 -- the line was judged: the builder stands for it, and for no word of the next one
-pub record LineJudged (builder : MeshBuilder) (scale : ℕ) (mesh_so_far : MeshSoFar) (line : ℕ) (words : List (List ℕ)) : Type 0 where
+pub record LineJudged (builder : MeshBuilder) (scale : ℕ) (mesh_so_far : MeshSoFar) (line : ℕ)
+    (words : List (List ℕ)) : Type 0 where
   pub judged : with_line scale mesh_so_far line words ≡ Ok (so_far builder)
   pub stands : StandsOn builder scale (so_far builder) (line + 1) []
 
@@ -86,7 +89,8 @@ pub record HasTaken (scanner : ObjScanner) (scale : ℕ) (text : List ℕ) : Typ
 
 -- some text was taken in, and with so many bytes more it is short enough
 abbrev pub HasRoom : ObjScanner → ℕ → Type 0
-HasRoom scanner more = (scale : ℕ) × (text : List ℕ) × HasTaken scanner scale text × (length text + more ≤ MAX_OBJ_BYTES)
+HasRoom scanner more =
+    (scale : ℕ) × (text : List ℕ) × HasTaken scanner scale text × (length text + more ≤ MAX_OBJ_BYTES)
 
 -- the first fault of every text that begins with this one stands in a line that ended in it
 pub record IsFirstFault (scale : ℕ) (text : List ℕ) (fault : ObjFault) : Type 0 where

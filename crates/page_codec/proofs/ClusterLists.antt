@@ -7,9 +7,11 @@ use Rattle.dag_core.specs.Members.{cluster_at}
 use Rattle.page_codec.specs.declared.pages.PageCluster.{PageCluster}
 use Rattle.page_codec.specs.Reading.{clusters_of, triangles_of}
 
-pub clusters_of-step : (heads : Heads) (clusters : List ℕ) (i c n : ℕ) (rest back : List ℕ) (items pushed whole : List PageCluster) (x : PageCluster)
+pub clusters_of-step : (heads : Heads) (clusters : List ℕ) (i c n : ℕ) (rest back : List ℕ)
+    (items pushed whole : List PageCluster) (x : PageCluster)
     → i < length clusters → c ≡ get_or clusters i 0 → n ≡ (cluster_at heads c).tris
-    → x ≡ record { number = c; tris = triangles_of n rest } → back ≡ drop (TRIANGLE_BYTES * n) rest → pushed ≡ items ++ (x ∷ [])
+    → x ≡ record { number = c; tris = triangles_of n rest } → back ≡ drop (TRIANGLE_BYTES * n) rest →
+        pushed ≡ items ++ (x ∷ [])
     → items ++ clusters_of heads (drop i clusters) rest ≡ whole
     → pushed ++ clusters_of heads (drop (i + 1) clusters) back ≡ whole
 clusters_of-step heads clusters i c n rest back items pushed whole x below at size is behind push all =

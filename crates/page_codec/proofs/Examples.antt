@@ -7,11 +7,18 @@ use Rattle.geom_core.specs.Limits.{has_distinct_corners}
 use Rattle.dag_core.specs.declared.counts.Counts.{Counts}
 use Rattle.dag_core.specs.Members.{home}
 use Rattle.dag_core.specs.Ranges.{counts_of}
-use Rattle.dag_core.proofs.TwoSquares.{left, sourced, corner_a, corner_b, middle, two_squares, two_squares_heads, leaf_of_four, made_of_two}
+use Rattle.dag_core.proofs.TwoSquares.{
+  left, sourced, corner_a, corner_b, middle, two_squares, two_squares_heads, leaf_of_four, made_of_two,
+}
 use Rattle.page_codec.specs.declared.breaks.Break.{Break}
-use Rattle.page_codec.specs.Breaks.{first_of, triangle_rules, tail_breaks, page_breaks, group_rules, head_rules, directory_breaks}
+use Rattle.page_codec.specs.Breaks.{
+  first_of, triangle_rules, tail_breaks, page_breaks, group_rules, head_rules, directory_breaks,
+}
 use Rattle.page_codec.specs.Numbers.{numbers_bytes, numbers_of}
-use Rattle.page_codec.specs.Records.{triangle_numbers, triangle_from, triangle_bytes, group_numbers, group_from, group_bytes, head_numbers, head_from, head_bytes}
+use Rattle.page_codec.specs.Records.{
+  triangle_numbers, triangle_from, triangle_bytes, group_numbers, group_from, group_bytes, head_numbers, head_from,
+  head_bytes,
+}
 use Rattle.page_codec.specs.Spelling.{cluster_bytes, tail_bytes, page_bytes_in, page_in, counts_bytes, magic, page_at}
 
 -- ---- what is spelt
@@ -66,24 +73,29 @@ abbrev high : List ℕ
 high = 255 ∷ 255 ∷ 255 ∷ 127 ∷ []
 
 pub page_1_has_no_break : first_break short_page ≡ None
-unfolding home page_in cluster_bytes tail_bytes numbers_bytes numbers_of triangle_numbers triangle_from page_breaks tail_breaks triangle_rules has_distinct_corners same_point
+unfolding home page_in cluster_bytes tail_bytes numbers_bytes numbers_of triangle_numbers triangle_from page_breaks
+    tail_breaks triangle_rules has_distinct_corners same_point
 page_1_has_no_break = refl
 
 pub coordinate_out_of_range : first_break (with_bytes 0 high short_page) ≡ break_of 1 0
-unfolding home page_in cluster_bytes tail_bytes numbers_bytes numbers_of triangle_numbers triangle_from page_breaks tail_breaks triangle_rules has_distinct_corners same_point
+unfolding home page_in cluster_bytes tail_bytes numbers_bytes numbers_of triangle_numbers triangle_from page_breaks
+    tail_breaks triangle_rules has_distinct_corners same_point
 coordinate_out_of_range = refl
 
 pub source_8 : first_break (set short_page 156 8) ≡ break_of 3 120
-unfolding home page_in cluster_bytes tail_bytes numbers_bytes numbers_of triangle_numbers triangle_from page_breaks tail_breaks triangle_rules has_distinct_corners same_point
+unfolding home page_in cluster_bytes tail_bytes numbers_bytes numbers_of triangle_numbers triangle_from page_breaks
+    tail_breaks triangle_rules has_distinct_corners same_point
 source_8 = refl
 
 pub last_byte_1 : first_break (set short_page 163 1) ≡ break_of 4 163
-unfolding home page_in cluster_bytes tail_bytes numbers_bytes numbers_of triangle_numbers triangle_from page_breaks tail_breaks triangle_rules has_distinct_corners same_point
+unfolding home page_in cluster_bytes tail_bytes numbers_bytes numbers_of triangle_numbers triangle_from page_breaks
+    tail_breaks triangle_rules has_distinct_corners same_point
 last_byte_1 = refl
 
 -- two corners equal, and a later byte of the tail: the triangle comes first, with its least rule
 pub equal_corners_before_the_tail : first_break (set (set (set short_page 163 1) 12 0) 36 9) ≡ break_of 2 0
-unfolding home page_in cluster_bytes tail_bytes numbers_bytes numbers_of triangle_numbers triangle_from page_breaks tail_breaks triangle_rules has_distinct_corners same_point
+unfolding home page_in cluster_bytes tail_bytes numbers_bytes numbers_of triangle_numbers triangle_from page_breaks
+    tail_breaks triangle_rules has_distinct_corners same_point
 equal_corners_before_the_tail = refl
 
 -- ---- breaks of a directory's records, in a file with the counts of the two squares
@@ -99,10 +111,12 @@ abbrev keeps : List ℕ
 keeps = []
 
 -- each rule at both sides of its bound: 0 the error, 1 terminal, 2 low x, 8 page, 9 first, 10 count
-pub group_bounds : rules_with 0 2147483647 ∷ rules_with 0 2147483648 ∷ rules_with 1 1 ∷ rules_with 1 2 ∷ rules_with 2 8 ∷ rules_with 2 9
+pub group_bounds : rules_with 0 2147483647 ∷ rules_with 0 2147483648 ∷ rules_with 1 1 ∷ rules_with 1 2 ∷ rules_with 2 8
+    ∷ rules_with 2 9
     ∷ rules_with 5 1048576 ∷ rules_with 5 1048577 ∷ rules_with 8 2 ∷ rules_with 8 3 ∷ rules_with 9 4 ∷ rules_with 9 5
     ∷ rules_with 10 8 ∷ rules_with 10 9 ∷ rules_with 10 0 ∷ []
-    ≡ keeps ∷ (1 ∷ []) ∷ keeps ∷ (2 ∷ []) ∷ keeps ∷ (3 ∷ []) ∷ keeps ∷ (3 ∷ []) ∷ keeps ∷ (4 ∷ []) ∷ keeps ∷ (5 ∷ []) ∷ keeps ∷ (5 ∷ []) ∷ (5 ∷ []) ∷ []
+    ≡ keeps ∷ (1 ∷ []) ∷ keeps ∷ (2 ∷ []) ∷ keeps ∷ (3 ∷ []) ∷ keeps ∷ (3 ∷ []) ∷ keeps ∷ (4 ∷ []) ∷ keeps ∷
+        (5 ∷ []) ∷ keeps ∷ (5 ∷ []) ∷ (5 ∷ []) ∷ []
 unfolding group_numbers group_from group_rules is_under
 group_bounds = refl
 
@@ -110,7 +124,8 @@ group_bounds = refl
 abbrev rules_of_head : ℕ → ℕ → List ℕ
 rules_of_head made tris = head_rules counts (head_from (made ∷ tris ∷ []))
 
-pub head_bounds : rules_of_head 2 128 ∷ rules_of_head 3 128 ∷ rules_of_head 4294967295 1 ∷ rules_of_head 4294967294 1 ∷ rules_of_head 0 129 ∷ rules_of_head 0 0 ∷ rules_of_head 3 0 ∷ []
+pub head_bounds : rules_of_head 2 128 ∷ rules_of_head 3 128 ∷ rules_of_head 4294967295 1 ∷ rules_of_head 4294967294 1 ∷
+    rules_of_head 0 129 ∷ rules_of_head 0 0 ∷ rules_of_head 3 0 ∷ []
     ≡ keeps ∷ (6 ∷ []) ∷ keeps ∷ (6 ∷ []) ∷ (7 ∷ []) ∷ (7 ∷ []) ∷ (6 ∷ 7 ∷ []) ∷ []
 unfolding head_from head_rules
 head_bounds = refl
@@ -124,20 +139,24 @@ abbrev first_record_break : List ℕ → Option Break
 first_record_break bytes = first_of (directory_breaks counts bytes)
 
 pub directory_has_no_break : first_record_break short_directory ≡ None
-unfolding numbers_bytes numbers_of group_numbers group_from head_numbers head_from directory_breaks group_rules head_rules is_under
+unfolding numbers_bytes numbers_of group_numbers group_from head_numbers head_from directory_breaks group_rules
+    head_rules is_under
 directory_has_no_break = refl
 
 -- the count of group 0 as 9 and the error of group 1 as 2^31: the earlier record comes first, with its greater rule
 pub earlier_group_comes_first : first_record_break (set (set short_directory 40 9) 47 128) ≡ break_of 5 0
-unfolding numbers_bytes numbers_of group_numbers group_from head_numbers head_from directory_breaks group_rules head_rules is_under
+unfolding numbers_bytes numbers_of group_numbers group_from head_numbers head_from directory_breaks group_rules
+    head_rules is_under
 earlier_group_comes_first = refl
 
 -- 0 triangles in cluster 0 and the maker of cluster 1 as 3
 pub earlier_cluster_comes_first : first_record_break (set (set short_directory 136 0) 140 3) ≡ break_of 7 132
-unfolding numbers_bytes numbers_of group_numbers group_from head_numbers head_from directory_breaks group_rules head_rules is_under
+unfolding numbers_bytes numbers_of group_numbers group_from head_numbers head_from directory_breaks group_rules
+    head_rules is_under
 earlier_cluster_comes_first = refl
 
 -- the maker of cluster 0 as 3 and the page of group 2 as 3: any group comes before any cluster
 pub groups_come_before_clusters : first_record_break (set (set short_directory 132 3) 120 3) ≡ break_of 4 88
-unfolding numbers_bytes numbers_of group_numbers group_from head_numbers head_from directory_breaks group_rules head_rules is_under
+unfolding numbers_bytes numbers_of group_numbers group_from head_numbers head_from directory_breaks group_rules
+    head_rules is_under
 groups_come_before_clusters = refl

@@ -1,5 +1,8 @@
 -- What is read from bytes without a break fits: pages their heads, directories their ranges.
-use Rattle.std.proofs.Common.{◌≡◌, ℕ, zero, suc, ◌+◌, ◌*◌, ◌≤◌, Bool, true, false, ◌&&◌, ltb, leb, None, List, [], ◌∷◌, ◌++◌, length, map, get_or, take, drop, refl, sym, ap, ◌∙◌, subst, arith}
+use Rattle.std.proofs.Common.{
+  ◌≡◌, ℕ, zero, suc, ◌+◌, ◌*◌, ◌≤◌, Bool, true, false, ◌&&◌, ltb, leb, None, List, [], ◌∷◌, ◌++◌, length, map, get_or,
+  take, drop, refl, sym, ap, ◌∙◌, subst, arith,
+}
 use Rattle.std.specs.List.{All, sum_by}
 use Rattle.std.proofs.Math.Nat.{mul-suc}
 use Rattle.std.proofs.lemmas.Bool.Decides.{nat_tests}
@@ -14,12 +17,18 @@ use Rattle.dag_core.specs.declared.heads.Heads.{Heads}
 use Rattle.dag_core.specs.declared.cluster_heads.ClusterHead.{ClusterHead}
 use Rattle.dag_core.specs.Members.{cluster_at}
 use Rattle.dag_core.specs.Pages.{clusters_on, tris_on}
-use Rattle.dag_core.specs.Ranges.{AreCountsInRange, counts_of, is_error, is_group_box, is_page, are_members, is_group_or_none, is_cluster_size, IsGroupInRange, IsClusterInRange}
+use Rattle.dag_core.specs.Ranges.{
+  AreCountsInRange, counts_of, is_error, is_group_box, is_page, are_members, is_group_or_none, is_cluster_size,
+  IsGroupInRange, IsClusterInRange,
+}
 use Rattle.dag_core.specs.TriangleRules.{IsSourcedTriangle}
 use Rattle.page_codec.specs.declared.pages.PageCluster.{PageCluster}
 use Rattle.page_codec.specs.Numbers.{records, numbers_of}
 use Rattle.page_codec.specs.Records.{triangle_of, group_from, group_of, head_of}
-use Rattle.page_codec.specs.Breaks.{unless, breaks_in, broken_at, triangle_rules, group_rules, head_rules, page_breaks, tail_breaks, directory_breaks, first_page_break, first_directory_break}
+use Rattle.page_codec.specs.Breaks.{
+  unless, breaks_in, broken_at, triangle_rules, group_rules, head_rules, page_breaks, tail_breaks, directory_breaks,
+  first_page_break, first_directory_break,
+}
 use Rattle.page_codec.specs.Fits.{FitsPage, FitsDirectory}
 use Rattle.page_codec.specs.Reading.{triangles_of, clusters_of, page_of, digest_of, heads_of, directory_of}
 use Rattle.page_codec.specs.Spelling.{directory_length}
@@ -34,7 +43,8 @@ and-both true b first second = second
 and-both false b first second = cc
 
 -- records without a break keep what the rules say
-pub records-kept : {X : Type 0} (read : List ℕ → X) (size : ℕ) (rules : List ℕ → List ℕ) (P : X → Type 0) → ((b : List ℕ) → rules b ≡ [] → P (read b))
+pub records-kept : {X : Type 0} (read : List ℕ → X) (size : ℕ) (rules : List ℕ → List ℕ) (P : X → Type 0) →
+    ((b : List ℕ) → rules b ≡ [] → P (read b))
     → (n offset : ℕ) (bytes : List ℕ) → breaks_in rules size offset n bytes ≡ [] → All P (records read size n bytes)
 records-kept read size rules P keep zero offset bytes none = All-nil P
 records-kept read size rules P keep (suc n) offset bytes none =
@@ -46,9 +56,12 @@ records-kept read size rules P keep (suc n) offset bytes none =
 
 -- breaks in two pieces
 pub breaks_in-append : (rules : List ℕ → List ℕ) (size offset m n : ℕ) (bytes : List ℕ)
-    → breaks_in rules size offset (m + n) bytes ≡ breaks_in rules size offset m bytes ++ breaks_in rules size (offset + size * m) n (drop (size * m) bytes)
+    → breaks_in rules size offset (m + n) bytes ≡ breaks_in rules size offset m bytes ++ breaks_in rules size
+        (offset + size * m) n (drop (size * m) bytes)
 breaks_in-append rules size offset zero n bytes =
-    let e : 0 + n ≡ n = omega arith in let z : size * 0 ≡ 0 = omega arith in let o : offset + 0 ≡ offset = omega arith in rw (e, z, o) refl
+    let e : 0 + n ≡ n =
+        omega arith in let z : size * 0 ≡ 0 = omega arith in let o : offset + 0 ≡ offset =
+        omega arith in rw (e, z, o) refl
 breaks_in-append rules size offset (suc m) n bytes =
     let e : suc m + n ≡ suc (m + n) = omega arith in
     let s : size * suc m ≡ size + size * m = mul-suc size m ∙ omega arith in
@@ -56,7 +69,8 @@ breaks_in-append rules size offset (suc m) n bytes =
     let head = broken_at offset (rules (take size bytes)) in
     rw (e, s, o, ← drop-drop (size * m) size bytes)
     (ap (λ xs. head ++ xs) (breaks_in-append rules size (offset + size) m n (drop size bytes))
-    ∙ sym (append_assoc head (breaks_in rules size (offset + size) m (drop size bytes)) (breaks_in rules size ((offset + size) + size * m) n (drop (size * m) (drop size bytes)))))
+    ∙ sym (append_assoc head (breaks_in rules size (offset + size) m (drop size bytes))
+        (breaks_in rules size ((offset + size) + size * m) n (drop (size * m) (drop size bytes)))))
 
 -- a triangle without a break
 triangle-sourced : (sources : ℕ) (t : Tagged) → triangle_rules sources t ≡ [] → IsSourcedTriangle sources t
@@ -68,25 +82,34 @@ triangle-sourced sources t none =
     let grid = kept-unless (has_grid_corners t.tri) 1 (nil-left one two (nil-left (one ++ two) three none)) in
     let distinct = kept-unless (has_distinct_corners t.tri) 2 (nil-right one two (nil-left (one ++ two) three none)) in
     let below = kept-unless (ltb t.source sources) 3 (nil-right (one ++ two) three none) in
-    record { triangle = and-both (has_grid_corners t.tri) (has_distinct_corners t.tri) grid distinct; source = grind (arith, nat_tests) }
+    record { triangle = and-both (has_grid_corners t.tri) (has_distinct_corners t.tri) grid distinct; source =
+        grind (arith, nat_tests) }
 
-numbers-read : (heads : Heads) (cs : List ℕ) (bytes : List ℕ) → map (λ cluster. cluster.number) (clusters_of heads cs bytes) ≡ cs
+numbers-read : (heads : Heads) (cs : List ℕ) (bytes : List ℕ) →
+    map (λ cluster. cluster.number) (clusters_of heads cs bytes) ≡ cs
 numbers-read heads [] bytes = refl
-numbers-read heads (c ∷ cs) bytes = ap (λ ns. c ∷ ns) (numbers-read heads cs (drop (40 * (cluster_at heads c).tris) bytes))
+numbers-read heads (c ∷ cs) bytes =
+    ap (λ ns. c ∷ ns) (numbers-read heads cs (drop (40 * (cluster_at heads c).tris) bytes))
 
-counts-read : (heads : Heads) (cs : List ℕ) (bytes : List ℕ) → All (λ cluster. length cluster.tris ≡ (cluster_at heads cluster.number).tris) (clusters_of heads cs bytes)
+counts-read : (heads : Heads) (cs : List ℕ) (bytes : List ℕ) →
+    All (λ cluster. length cluster.tris ≡ (cluster_at heads cluster.number).tris) (clusters_of heads cs bytes)
 unfolding triangles_of
-counts-read heads [] bytes = All-nil (λ (cluster : PageCluster). length cluster.tris ≡ (cluster_at heads cluster.number).tris)
+counts-read heads [] bytes =
+    All-nil (λ (cluster : PageCluster). length cluster.tris ≡ (cluster_at heads cluster.number).tris)
 counts-read heads (c ∷ cs) bytes =
     let n = (cluster_at heads c).tris in
     let made : PageCluster = record { number = c; tris = records triangle_of 40 n bytes } in
-    All-cons (λ cluster. length cluster.tris ≡ (cluster_at heads cluster.number).tris) made (clusters_of heads cs (drop (40 * n) bytes))
+    All-cons (λ cluster. length cluster.tris ≡ (cluster_at heads cluster.number).tris) made
+        (clusters_of heads cs (drop (40 * n) bytes))
     (length-records triangle_of 40 n bytes) (counts-read heads cs (drop (40 * n) bytes))
 
-sourced-read : (heads : Heads) (cs : List ℕ) (offset : ℕ) (bytes : List ℕ) → breaks_in (λ b. triangle_rules heads.sources (triangle_of b)) 40 offset (sum_by (λ c. (cluster_at heads c).tris) cs) bytes ≡ []
+sourced-read : (heads : Heads) (cs : List ℕ) (offset : ℕ) (bytes : List ℕ) →
+    breaks_in (λ b. triangle_rules heads.sources (triangle_of b)) 40 offset
+    (sum_by (λ c. (cluster_at heads c).tris) cs) bytes ≡ []
     → All (λ cluster. All (IsSourcedTriangle heads.sources) cluster.tris) (clusters_of heads cs bytes)
 unfolding triangles_of
-sourced-read heads [] offset bytes none = All-nil (λ (cluster : PageCluster). All (IsSourcedTriangle heads.sources) cluster.tris)
+sourced-read heads [] offset bytes none =
+    All-nil (λ (cluster : PageCluster). All (IsSourcedTriangle heads.sources) cluster.tris)
 sourced-read heads (c ∷ cs) offset bytes none =
     let f : ℕ → ℕ = λ c. (cluster_at heads c).tris in
     let rules = λ (b : List ℕ). triangle_rules heads.sources (triangle_of b) in
@@ -94,14 +117,19 @@ sourced-read heads (c ∷ cs) offset bytes none =
     let sum : sum_by f (c ∷ cs) ≡ n + sum_by f cs = grind (arith, common_steps) in
     let head = breaks_in rules 40 offset n bytes in
     let rest = breaks_in rules 40 (offset + 40 * n) (sum_by f cs) (drop (40 * n) bytes) in
-    let both : head ++ rest ≡ [] = sym (breaks_in-append rules 40 offset n (sum_by f cs) bytes) ∙ ap (λ k. breaks_in rules 40 offset k bytes) (sym sum) ∙ none in
+    let both : head ++ rest ≡ [] =
+        sym (breaks_in-append rules 40 offset n (sum_by f cs) bytes) ∙
+        ap (λ k. breaks_in rules 40 offset k bytes) (sym sum) ∙ none in
     let made : PageCluster = record { number = c; tris = records triangle_of 40 n bytes } in
-    All-cons (λ cluster. All (IsSourcedTriangle heads.sources) cluster.tris) made (clusters_of heads cs (drop (40 * n) bytes))
-    (records-kept triangle_of 40 rules (IsSourcedTriangle heads.sources) (λ b good. triangle-sourced heads.sources (triangle_of b) good) n offset bytes (nil-left head rest both))
+    All-cons (λ cluster. All (IsSourcedTriangle heads.sources) cluster.tris) made
+        (clusters_of heads cs (drop (40 * n) bytes))
+    (records-kept triangle_of 40 rules (IsSourcedTriangle heads.sources)
+        (λ b good. triangle-sourced heads.sources (triangle_of b) good) n offset bytes (nil-left head rest both))
     (sourced-read heads cs (offset + 40 * n) (drop (40 * n) bytes) (nil-right head rest both))
 
 -- a page without a break fits its heads
-pub FitsPage-read : (heads : Heads) (p : ℕ) (bytes : List ℕ) → first_page_break heads p bytes ≡ None → FitsPage heads (page_of heads p bytes)
+pub FitsPage-read : (heads : Heads) (p : ℕ) (bytes : List ℕ) → first_page_break heads p bytes ≡ None →
+    FitsPage heads (page_of heads p bytes)
 unfolding page_of page_breaks tris_on
 FitsPage-read heads p bytes found =
     let triangles = breaks_in (λ b. triangle_rules heads.sources (triangle_of b)) 40 0 (tris_on heads p) bytes in
@@ -109,7 +137,9 @@ FitsPage-read heads p bytes found =
     record {
       clusters = numbers-read heads (clusters_on heads p) bytes;
       counts = counts-read heads (clusters_on heads p) bytes;
-      triangles = sourced-read heads (clusters_on heads p) 0 bytes (nil-left triangles tail (none-first (triangles ++ tail) (sym found)));
+      triangles =
+          sourced-read heads (clusters_on heads p) 0 bytes
+          (nil-left triangles tail (none-first (triangles ++ tail) (sym found)));
     }
 
 -- a group without a break
@@ -128,7 +158,9 @@ group-ranged counts ns none =
       error = kept-unless (is_error group.error) 1 (nil-left one two (nil-left (one ++ two) three to_three));
       box = kept-unless (is_group_box group.cube) 3 (nil-right (one ++ two) three to_three);
       page = kept-unless (is_page counts group.page) 4 (nil-right ((one ++ two) ++ three) four to_four);
-      members = kept-unless (are_members counts group.first group.count) 5 (nil-right (((one ++ two) ++ three) ++ four) five none);
+      members =
+          kept-unless (are_members counts group.first group.count) 5
+          (nil-right (((one ++ two) ++ three) ++ four) five none);
     }
 
 head-ranged : (counts : Counts) (head : ClusterHead) → head_rules counts head ≡ [] → IsClusterInRange counts head
@@ -141,19 +173,23 @@ head-ranged counts head none =
       size = kept-unless (is_cluster_size head.tris) 7 (nil-right six seven none);
     }
 
-digests-sized : (n : ℕ) (bytes : List ℕ) → 32 * n ≤ length bytes → All (λ digest. length digest.bytes ≡ 32) (records digest_of 32 n bytes)
+digests-sized : (n : ℕ) (bytes : List ℕ) → 32 * n ≤ length bytes →
+    All (λ digest. length digest.bytes ≡ 32) (records digest_of 32 n bytes)
 digests-sized zero bytes room = All-nil (λ (digest : Digest32). length digest.bytes ≡ 32)
 digests-sized (suc n) bytes room =
-    All-cons (λ (digest : Digest32). length digest.bytes ≡ 32) (digest_of (take 32 bytes)) (records digest_of 32 n (drop 32 bytes))
+    All-cons (λ (digest : Digest32). length digest.bytes ≡ 32) (digest_of (take 32 bytes))
+        (records digest_of 32 n (drop 32 bytes))
     (length-take-le 32 bytes (omega arith)) (digests-sized n (drop 32 bytes) (omega (arith, length-drop 32 bytes)))
 
 -- the counts of what is read are those that were given
 pub counts_of-read : (counts : Counts) (bytes : List ℕ) → counts_of (heads_of counts bytes) ≡ counts
 counts_of-read counts bytes =
-    rw (length-records group_of 44 counts.groups bytes, length-records head_of 8 counts.clusters (drop (44 * counts.groups) bytes)) refl
+    rw (length-records group_of 44 counts.groups bytes,
+        length-records head_of 8 counts.clusters (drop (44 * counts.groups) bytes)) refl
 
 -- a directory without a break fits
-pub FitsDirectory-read : (counts : Counts) (bytes : List ℕ) → AreCountsInRange counts → length bytes ≡ directory_length counts
+pub FitsDirectory-read : (counts : Counts) (bytes : List ℕ) → AreCountsInRange counts →
+    length bytes ≡ directory_length counts
     → first_directory_break counts bytes ≡ None → FitsDirectory (directory_of counts bytes)
 unfolding directory_of directory_breaks
 FitsDirectory-read counts bytes range size found =
@@ -164,13 +200,22 @@ FitsDirectory-read counts bytes range size found =
     let same = sym (counts_of-read counts bytes) in
     let Counted : Counts → Type 0 = λ cs. AreCountsInRange cs in
     let Grouped : Counts → Type 0 = λ cs. All (IsGroupInRange cs) (records group_of 44 counts.groups bytes) in
-    let Clustered : Counts → Type 0 = λ cs. All (IsClusterInRange cs) (records head_of 8 counts.clusters (drop g bytes)) in
+    let Clustered : Counts → Type 0 =
+        λ cs. All (IsClusterInRange cs) (records head_of 8 counts.clusters (drop g bytes)) in
     record {
       heads = record {
         counts = subst Counted same range;
-        groups = subst Grouped same (records-kept group_of 44 (λ b. group_rules counts (numbers_of 11 b)) (IsGroupInRange counts) (λ b good. group-ranged counts (numbers_of 11 b) good) counts.groups 0 bytes (nil-left groups heads none));
-        clusters = subst Clustered same (records-kept head_of 8 (λ b. head_rules counts (head_of b)) (IsClusterInRange counts) (λ b good. head-ranged counts (head_of b) good) counts.clusters g (drop g bytes) (nil-right groups heads none));
+        groups =
+            subst Grouped same (records-kept group_of 44 (λ b. group_rules counts (numbers_of 11 b))
+            (IsGroupInRange counts) (λ b good. group-ranged counts (numbers_of 11 b) good) counts.groups 0 bytes
+            (nil-left groups heads none));
+        clusters =
+            subst Clustered same (records-kept head_of 8 (λ b. head_rules counts (head_of b)) (IsClusterInRange counts)
+            (λ b good. head-ranged counts (head_of b) good) counts.clusters g (drop g bytes)
+            (nil-right groups heads none));
       };
       digest_count = length-records digest_of 32 counts.pages (drop (g + 8 * counts.clusters) bytes);
-      digests = digests-sized counts.pages (drop (g + 8 * counts.clusters) bytes) (omega (arith, length-drop (g + 8 * counts.clusters) bytes));
+      digests =
+          digests-sized counts.pages (drop (g + 8 * counts.clusters) bytes)
+          (omega (arith, length-drop (g + 8 * counts.clusters) bytes));
     }

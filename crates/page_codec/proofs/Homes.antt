@@ -1,5 +1,8 @@
 -- In heads that keep rule 1 the clusters on a page are the members of its groups, in order.
-use Rattle.std.proofs.Common.{◌≡◌, ℕ, zero, suc, ◌+◌, ◌-◌, ◌<◌, ◌≤◌, Bool, true, false, cond, eqb, List, [], ◌∷◌, ◌++◌, length, get_or, take, refl, sym, ap, ◌∙◌, arith}
+use Rattle.std.proofs.Common.{
+  ◌≡◌, ℕ, zero, suc, ◌+◌, ◌-◌, ◌<◌, ◌≤◌, Bool, true, false, cond, eqb, List, [], ◌∷◌, ◌++◌, length, get_or, take, refl,
+  sym, ap, ◌∙◌, arith,
+}
 use Rattle.std.specs.List.{filter, flat_map, range_with_len, sum_by}
 use Rattle.std.proofs.lemmas.Bool.Decides.{nat_tests}
 use Rattle.std.proofs.lemmas.Grind.{flat_map-append, common_steps}
@@ -40,7 +43,8 @@ filter-range test false m (suc n) same =
 abbrev pub counted : List Group → ℕ → ℕ
 counted groups g = sum_by (λ group. group.count) (take g groups)
 
-pub counted-more : (groups : List Group) (g : ℕ) → g < length groups → counted groups (g + 1) ≡ counted groups g + (get_or groups g no_group).count
+pub counted-more : (groups : List Group) (g : ℕ) → g < length groups →
+    counted groups (g + 1) ≡ counted groups g + (get_or groups g no_group).count
 counted-more groups g below = rw (take_more groups g no_group below) (grind (arith, common_steps))
 
 -- they are no fewer for a greater number
@@ -53,7 +57,8 @@ counted-le groups k (suc n) within =
     rw e (omega arith)
 
 -- rule 1 at a group: its members follow those before it
-pub first-counted : (heads : Heads) → Checked heads → (g : ℕ) → g < length heads.groups → (group_at heads g).first ≡ counted heads.groups g
+pub first-counted : (heads : Heads) → Checked heads → (g : ℕ) → g < length heads.groups →
+    (group_at heads g).first ≡ counted heads.groups g
 unfolding breaks_members members_before
 first-counted heads checked g below = let rule = checked 1 g in grind (arith, nat_tests)
 
@@ -63,7 +68,8 @@ unfolding breaks_members members_before
 all-counted heads checked = let rule = checked 1 (length heads.groups) in grind (arith, nat_tests)
 
 -- a member's home is the group
-pub home-member : (heads : Heads) → Checked heads → (g c : ℕ) → g < length heads.groups → counted heads.groups g ≤ c → c < counted heads.groups (g + 1) → home heads c ≡ g
+pub home-member : (heads : Heads) → Checked heads → (g c : ℕ) → g < length heads.groups → counted heads.groups g ≤ c →
+    c < counted heads.groups (g + 1) → home heads c ≡ g
 unfolding home
 home-member heads checked g c below from to =
     position_or_len_is (has_member c) heads.groups g no_group (omega arith)
@@ -71,7 +77,8 @@ home-member heads checked g c below from to =
     let first = first-counted heads checked k (omega arith) in
     let more = counted-more heads.groups k (omega arith) in
     let gap : (k + 1) + (g - (k + 1)) ≡ g = omega arith in
-    let ahead : counted heads.groups (k + 1) ≤ counted heads.groups g = rw gap at (counted-le heads.groups (k + 1) (g - (k + 1)) (omega arith)) in
+    let ahead : counted heads.groups (k + 1) ≤ counted heads.groups g =
+        rw gap at (counted-le heads.groups (k + 1) (g - (k + 1)) (omega arith)) in
     grind (arith, nat_tests))
     (λ within.
     let first = first-counted heads checked g below in
@@ -80,7 +87,8 @@ home-member heads checked g c below from to =
 
 -- the clusters on page p among the members of the first g groups
 pub listed-below : (heads : Heads) → Checked heads → (p g : ℕ) → g ≤ length heads.groups
-    → flat_map (members_of p) (take g heads.groups) ≡ filter (λ c. eqb (page_of_cluster heads c) p) (range_with_len 0 (counted heads.groups g))
+    → flat_map (members_of p) (take g heads.groups) ≡ filter (λ c. eqb (page_of_cluster heads c) p)
+        (range_with_len 0 (counted heads.groups g))
 listed-below heads checked p zero within = refl
 listed-below heads checked p (suc g) within =
     let groups = heads.groups in
@@ -90,21 +98,28 @@ listed-below heads checked p (suc g) within =
     let group = get_or groups g no_group in
     let more = counted-more groups g below in
     let first = first-counted heads checked g below in
-    let same : filter on (range_with_len (counted groups g) group.count) ≡ cond (eqb group.page p) (range_with_len (counted groups g) group.count) [] =
+    let same : filter on (range_with_len (counted groups g) group.count) ≡ cond (eqb group.page p)
+        (range_with_len (counted groups g) group.count) [] =
     filter-range on (eqb group.page p) (counted groups g) group.count
     (λ c from to. ap (λ h. eqb (group_at heads h).page p) (home-member heads checked g c below from (omega arith))) in
-    let left : flat_map (members_of p) (take (g + 1) groups) ≡ flat_map (members_of p) (take g groups) ++ members_of p group =
-    rw (take_more groups g no_group below, flat_map-append (members_of p) (take g groups) (group ∷ []), append-nil (members_of p group)) refl in
-    let right : filter on (range_with_len 0 (counted groups (g + 1))) ≡ filter on (range_with_len 0 (counted groups g)) ++ filter on (range_with_len (counted groups g) group.count) =
-    rw (more, range-append 0 (counted groups g) group.count, filter-append on (range_with_len 0 (counted groups g)) (range_with_len (0 + counted groups g) group.count))
-    (ap (λ m. filter on (range_with_len 0 (counted groups g)) ++ filter on (range_with_len m group.count)) (omega arith)) in
+    let left : flat_map (members_of p) (take (g + 1) groups) ≡ flat_map (members_of p)
+        (take g groups) ++ members_of p group =
+    rw (take_more groups g no_group below, flat_map-append (members_of p) (take g groups) (group ∷ []),
+        append-nil (members_of p group)) refl in
+    let right : filter on (range_with_len 0 (counted groups (g + 1))) ≡ filter on
+        (range_with_len 0 (counted groups g)) ++ filter on (range_with_len (counted groups g) group.count) =
+    rw (more, range-append 0 (counted groups g) group.count,
+        filter-append on (range_with_len 0 (counted groups g)) (range_with_len (0 + counted groups g) group.count))
+    (ap (λ m. filter on (range_with_len 0 (counted groups g)) ++ filter on (range_with_len m group.count))
+        (omega arith)) in
     let members : members_of p group ≡ filter on (range_with_len (counted groups g) group.count) =
     ap (λ m. cond (eqb group.page p) (range_with_len m group.count) []) first ∙ sym same in
     rw e (left ∙ ap (λ xs. xs ++ members_of p group) (listed-below heads checked p g (omega arith))
     ∙ ap (λ ys. filter on (range_with_len 0 (counted groups g)) ++ ys) members ∙ sym right)
 
 -- the clusters on a page are the members of its groups
-pub clusters_on-members : (heads : Heads) → Checked heads → (p : ℕ) → flat_map (members_of p) heads.groups ≡ clusters_on heads p
+pub clusters_on-members : (heads : Heads) → Checked heads → (p : ℕ) →
+    flat_map (members_of p) heads.groups ≡ clusters_on heads p
 clusters_on-members heads checked p =
     ap (flat_map (members_of p)) (sym (take_all (length heads.groups) heads.groups (omega arith)))
     ∙ listed-below heads checked p (length heads.groups) (omega arith)

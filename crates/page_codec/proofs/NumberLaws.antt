@@ -17,15 +17,18 @@ Is32 n = n < 4294967296
 pub length-numbers_bytes : (numbers : List ℕ) → length (numbers_bytes numbers) ≡ 4 * length numbers
 unfolding numbers_bytes
 length-numbers_bytes [] = refl
-length-numbers_bytes (n ∷ numbers) = omega (arith, length-append (number_bytes n) (flat_map number_bytes numbers), length-numbers_bytes numbers)
+length-numbers_bytes (n ∷ numbers) =
+    omega (arith, length-append (number_bytes n) (flat_map number_bytes numbers), length-numbers_bytes numbers)
 
 -- numbers read back
-pub numbers_of-spelt : (numbers : List ℕ) → All Is32 numbers → numbers_of (length numbers) (numbers_bytes numbers) ≡ numbers
+pub numbers_of-spelt : (numbers : List ℕ) → All Is32 numbers →
+    numbers_of (length numbers) (numbers_bytes numbers) ≡ numbers
 unfolding numbers_bytes numbers_of
 numbers_of-spelt numbers all =
     ap (records (little_number 4) 4 (length numbers)) (sym (append-nil (flat_map number_bytes numbers)))
     ∙ records-spelt (little_number 4) number_bytes 4 Is32 (λ n small. refl)
-    (λ n small. ap (little_number 4) (sym (append-nil (number_bytes n))) ∙ little_number-reads_back 4 n [] small) numbers [] all
+    (λ n small. ap (little_number 4) (sym (append-nil (number_bytes n))) ∙ little_number-reads_back 4 n [] small)
+        numbers [] all
 
 number-same : (b : List ℕ) → length b ≡ 4 → little_number 4 b ≡ from_le_bytes w32 b
 number-same [] len = cc
@@ -44,8 +47,10 @@ no-breaks zero offset bytes = refl
 no-breaks (suc n) offset bytes = no-breaks n (offset + 4) (drop 4 bytes)
 
 -- bytes are those of the numbers that they read as
-pub numbers_bytes-read : (n : ℕ) (bytes : List ℕ) → length bytes ≡ 4 * n → IsBytes bytes → numbers_bytes (numbers_of n bytes) ≡ bytes
+pub numbers_bytes-read : (n : ℕ) (bytes : List ℕ) → length bytes ≡ 4 * n → IsBytes bytes →
+    numbers_bytes (numbers_of n bytes) ≡ bytes
 unfolding numbers_bytes numbers_of
 numbers_bytes-read n bytes len are =
-    spelt-records (little_number 4) number_bytes 4 (λ b. []) (λ b len are none. number_bytes-read b len are) n 0 bytes (omega arith) are (no-breaks n 0 bytes)
+    spelt-records (little_number 4) number_bytes 4 (λ b. []) (λ b len are none. number_bytes-read b len are) n 0 bytes
+        (omega arith) are (no-breaks n 0 bytes)
     ∙ take_all (4 * n) bytes (omega arith)

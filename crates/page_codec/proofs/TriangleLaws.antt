@@ -19,16 +19,20 @@ Are32 numbers = (i : ℕ) → get_or numbers i 0 < 4294967296
 -- a list is its items
 pub listed : (n : ℕ) (xs : List ℕ) → length xs ≡ n → map (λ i. get_or xs i 0) (range_with_len 0 n) ≡ xs
 listed n xs len =
-    ext_get_or 0 (map (λ i. get_or xs i 0) (range_with_len 0 n)) xs (length-map-range_with_len (λ i. get_or xs i 0) 0 n ∙ sym len)
-    (λ i below. let size = length-map-range_with_len (λ i. get_or xs i 0) 0 n in get_or-map-range_with_len (λ i. get_or xs i 0) 0 n i i 0 (omega arith) (omega arith))
+    ext_get_or 0 (map (λ i. get_or xs i 0) (range_with_len 0 n)) xs
+        (length-map-range_with_len (λ i. get_or xs i 0) 0 n ∙ sym len)
+    (λ i below. let size = length-map-range_with_len (λ i. get_or xs i 0) 0 n in get_or-map-range_with_len
+        (λ i. get_or xs i 0) 0 n i i 0 (omega arith) (omega arith))
 
 -- numbers that are read fit
-pub Are32-read : (n : ℕ) (bytes : List ℕ) → IsBytes bytes → (i : ℕ) → get_or (records (little_number 4) 4 n bytes) i 0 < 4294967296
+pub Are32-read : (n : ℕ) (bytes : List ℕ) → IsBytes bytes → (i : ℕ) →
+    get_or (records (little_number 4) 4 n bytes) i 0 < 4294967296
 Are32-read zero bytes are i = omega arith
 Are32-read (suc n) bytes are zero = little_from-lt 0 4 (take 4 bytes) (IsBytes-take 4 bytes are)
 Are32-read (suc n) bytes are (suc i) = Are32-read n (drop 4 bytes) (IsBytes-drop 4 bytes are) i
 
-pub length-records : {X : Type 0} (read : List ℕ → X) (size n : ℕ) (bytes : List ℕ) → length (records read size n bytes) ≡ n
+pub length-records : {X : Type 0} (read : List ℕ → X) (size n : ℕ) (bytes : List ℕ) →
+    length (records read size n bytes) ≡ n
 length-records read size zero bytes = refl
 length-records read size (suc n) bytes = ap suc (length-records read size n (drop size bytes))
 

@@ -23,4 +23,5 @@ pub record IsIndexOf (heads : Heads) (links : PageLinks) : Type 0 where
   pub first_count : length links.firsts ≡ heads.pages
   pub next_count : length links.nexts ≡ length heads.groups
   pub firsts : (p : ℕ) → p < heads.pages → slice_index links.firsts p ≡ next_on heads.groups p 0
-  pub nexts : (g : ℕ) → g < length heads.groups → slice_index links.nexts g ≡ next_on heads.groups (group_at heads g).page (g + 1)
+  pub nexts : (g : ℕ) → g < length heads.groups →
+      slice_index links.nexts g ≡ next_on heads.groups (group_at heads g).page (g + 1)

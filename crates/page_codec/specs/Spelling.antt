@@ -10,7 +10,9 @@ use Rattle.dag_core.specs.declared.dags.Dag.{Dag}
 use Rattle.dag_core.specs.Pages.{clusters_on}
 use Rattle.dag_core.specs.Ranges.{counts_of}
 use Rattle.dag_core.specs.Triangles.{tris_at}
-use Rattle.page_codec.specs.declared.sizes.TheConstants.{VERSION, HEADER_BYTES, GROUP_BYTES, CLUSTER_BYTES, DIGEST_BYTES}
+use Rattle.page_codec.specs.declared.sizes.TheConstants.{
+  VERSION, HEADER_BYTES, GROUP_BYTES, CLUSTER_BYTES, DIGEST_BYTES,
+}
 use Rattle.page_codec.specs.declared.pages.PageCluster.{PageCluster}
 use Rattle.page_codec.specs.declared.pages.Page.{Page}
 use Rattle.page_codec.specs.declared.directories.Directory.{Directory}
@@ -77,7 +79,8 @@ magic = codes "GEOPAGES"
 
 -- the version and the counts
 abbrev pub counts_numbers : ℕ → Counts → List ℕ
-counts_numbers version counts = version ∷ counts.groups ∷ counts.clusters ∷ counts.pages ∷ counts.roots ∷ counts.sources ∷ []
+counts_numbers version counts =
+    version ∷ counts.groups ∷ counts.clusters ∷ counts.pages ∷ counts.roots ∷ counts.sources ∷ []
 
 unfoldable pub counts_bytes : ℕ → Counts → List ℕ
 counts_bytes version counts = numbers_bytes (counts_numbers version counts)

@@ -14,7 +14,8 @@ abbrev pub header_text : ℕ → Counts → List ℕ
 header_text version counts = magic ++ counts_bytes version counts ++ replicate 32 0
 
 abbrev pub counts_with : ℕ → ℕ → ℕ → ℕ → ℕ → Counts
-counts_with groups clusters pages roots sources = record { groups = groups; clusters = clusters; pages = pages; roots = roots; sources = sources }
+counts_with groups clusters pages roots sources =
+    record { groups = groups; clusters = clusters; pages = pages; roots = roots; sources = sources }
 
 -- an empty file, and one that ends a byte before the header does, whatever it begins with
 pub opening_empty : opening root_pages [] ≡ Err (Truncated 0)
@@ -37,26 +38,33 @@ opening_version_2 = refl
 
 -- each count in turn
 pub opening_groups : opening root_pages (header_text 1 (counts_with 0 0 0 0 0)) ≡ Err (Rule 0 0)
-unfolding opening directory_opened header_opened cut header_fault first_bad_count counts_bytes numbers_bytes header_of numbers_of
+unfolding opening directory_opened header_opened cut header_fault first_bad_count counts_bytes numbers_bytes header_of
+    numbers_of
 opening_groups = refl
 
 pub opening_clusters : opening root_pages (header_text 1 (counts_with 1 8388609 0 0 0)) ≡ Err (Rule 0 1)
-unfolding opening directory_opened header_opened cut header_fault first_bad_count counts_bytes numbers_bytes header_of numbers_of
+unfolding opening directory_opened header_opened cut header_fault first_bad_count counts_bytes numbers_bytes header_of
+    numbers_of
 opening_clusters = refl
 
 pub opening_pages : opening root_pages (header_text 1 (counts_with 1 1 0 0 0)) ≡ Err (Rule 0 2)
-unfolding opening directory_opened header_opened cut header_fault first_bad_count counts_bytes numbers_bytes header_of numbers_of
+unfolding opening directory_opened header_opened cut header_fault first_bad_count counts_bytes numbers_bytes header_of
+    numbers_of
 opening_pages = refl
 
 pub opening_roots : opening root_pages (header_text 1 (counts_with 1 1 2 3 0)) ≡ Err (Rule 0 3)
-unfolding opening directory_opened header_opened cut header_fault first_bad_count counts_bytes numbers_bytes header_of numbers_of
+unfolding opening directory_opened header_opened cut header_fault first_bad_count counts_bytes numbers_bytes header_of
+    numbers_of
 opening_roots = refl
 
 pub opening_sources : opening root_pages (header_text 1 (counts_with 1 1 2 2 1048577)) ≡ Err (Rule 0 4)
-unfolding opening directory_opened header_opened cut header_fault first_bad_count counts_bytes numbers_bytes header_of numbers_of
+unfolding opening directory_opened header_opened cut header_fault first_bad_count counts_bytes numbers_bytes header_of
+    numbers_of
 opening_sources = refl
 
 -- a directory of 84 bytes, of which 83 are there
-pub opening_short_directory : opening root_pages (header_text 1 (counts_with 1 1 1 1 1) ++ replicate 83 0) ≡ Err (Truncated 147)
-unfolding opening directory_opened header_opened cut header_fault first_bad_count counts_bytes numbers_bytes header_of numbers_of
+pub opening_short_directory : opening root_pages (header_text 1 (counts_with 1 1 1 1 1) ++ replicate 83 0) ≡ Err
+    (Truncated 147)
+unfolding opening directory_opened header_opened cut header_fault first_bad_count counts_bytes numbers_bytes header_of
+    numbers_of
 opening_short_directory = refl

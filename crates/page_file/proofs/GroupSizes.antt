@@ -1,5 +1,7 @@
 -- The number of a group's triangles: at least one, and at most those of eight full clusters.
-use Rattle.std.proofs.Common.{◌≡◌, ℕ, zero, suc, ◌+◌, ◌*◌, ◌<◌, ◌≤◌, List, [], ◌∷◌, length, get_or, IsTrue, sym, ap, ◌∙◌, arith, add-one}
+use Rattle.std.proofs.Common.{
+  ◌≡◌, ℕ, zero, suc, ◌+◌, ◌*◌, ◌<◌, ◌≤◌, List, [], ◌∷◌, length, get_or, IsTrue, sym, ap, ◌∙◌, arith, add-one,
+}
 use Rattle.std.specs.List.{range_with_len, sum_by}
 use Rattle.std.proofs.lemmas.Bool.Decides.{nat_tests}
 use Rattle.std.proofs.lemmas.List.Elements.{All-get_or}
@@ -34,7 +36,8 @@ members_within heads kept g below =
 abbrev pub tris_from : Heads → ℕ → ℕ → ℕ
 tris_from heads first count = sum_by (λ c. (cluster_at heads c).tris) (range_with_len first count)
 
-pub tris_from-more : (heads : Heads) (first count : ℕ) → tris_from heads first (count + 1) ≡ tris_from heads first count + (cluster_at heads (first + count)).tris
+pub tris_from-more : (heads : Heads) (first count : ℕ) →
+    tris_from heads first (count + 1) ≡ tris_from heads first count + (cluster_at heads (first + count)).tris
 tris_from-more heads first count =
     let f : ℕ → ℕ = λ c. (cluster_at heads c).tris in
     ap (sum_by f) (range-append first count 1)
@@ -45,9 +48,11 @@ count_parts : (most n : ℕ) → IsTrue (is_count_to most n) → (1 ≤ n) × (n
 count_parts most n is = (grind (arith, nat_tests), grind (arith, nat_tests))
 
 -- a cluster has 1 to 128 triangles
-pub cluster_size : (heads : Heads) (c : ℕ) → IsInRange heads → c < length heads.clusters → (1 ≤ (cluster_at heads c).tris) × ((cluster_at heads c).tris ≤ 128)
+pub cluster_size : (heads : Heads) (c : ℕ) → IsInRange heads → c < length heads.clusters →
+    (1 ≤ (cluster_at heads c).tris) × ((cluster_at heads c).tris ≤ 128)
 cluster_size heads c range below =
-    count_parts 128 (cluster_at heads c).tris (All-get_or (IsClusterInRange (counts_of heads)) heads.clusters c no_cluster below range.clusters).size
+    count_parts 128 (cluster_at heads c).tris
+        (All-get_or (IsClusterInRange (counts_of heads)) heads.clusters c no_cluster below range.clusters).size
 
 pub tris_from-bounds : (heads : Heads) → IsInRange heads → (first count : ℕ) → first + count ≤ length heads.clusters →
     (count ≤ tris_from heads first count) × (tris_from heads first count ≤ 128 * count)
@@ -55,17 +60,21 @@ tris_from-bounds heads range first zero within = (omega arith, omega arith)
 tris_from-bounds heads range first (suc count) within =
     let before = tris_from-bounds heads range first count (omega arith) in
     let size = cluster_size heads (first + count) range (omega arith) in
-    let more : tris_from heads first (suc count) ≡ tris_from heads first count + (cluster_at heads (first + count)).tris =
+    let more : tris_from heads first (suc count) ≡ tris_from heads first count +
+        (cluster_at heads (first + count)).tris =
     ap (tris_from heads first) (sym (add-one count)) ∙ tris_from-more heads first count in
     (omega (arith, before.0, size.0, more), omega (arith, before.1, size.1, more))
 
 -- a group has 1 to 1,024 triangles
-pub group_size-bounds : (heads : Heads) → IsInRange heads → KeepsRulesBelow 5 heads → (g : ℕ) → g < length heads.groups →
+pub group_size-bounds : (heads : Heads) → IsInRange heads → KeepsRulesBelow 5 heads → (g : ℕ) →
+    g < length heads.groups →
     (1 ≤ group_size heads g) × (group_size heads g ≤ 1024)
 unfolding group_size
 group_size-bounds heads range kept g below =
     let bounds = group_bounds heads g range below in
-    let sums = tris_from-bounds heads range (group_at heads g).first (group_at heads g).count (members_within heads kept g below) in
+    let sums =
+        tris_from-bounds heads range (group_at heads g).first (group_at heads g).count
+        (members_within heads kept g below) in
     (omega (arith, sums.0, bounds.some_member), omega (arith, sums.1, bounds.count))
 
 -- a group's size, counted by its members

@@ -1,5 +1,8 @@
 -- How many triangles next fit puts on each page of a part.
-use Rattle.std.proofs.Common.{◌≡◌, ℕ, zero, suc, ◌+◌, ◌-◌, ◌<◌, ◌≤◌, Bool, true, false, cond, eqb, leb, refl, sym, ap, ◌∙◌, subst, inl, inr, arith, add-one}
+use Rattle.std.proofs.Common.{
+  ◌≡◌, ℕ, zero, suc, ◌+◌, ◌-◌, ◌<◌, ◌≤◌, Bool, true, false, cond, eqb, leb, refl, sym, ap, ◌∙◌, subst, inl, inr, arith,
+  add-one,
+}
 use Rattle.std.proofs.lemmas.Bool.{cases_eq}
 use Rattle.std.proofs.lemmas.Bool.Decides.{nat_tests}
 use Rattle.dag_core.specs.declared.heads.Heads.{Heads}
@@ -34,7 +37,8 @@ pub record IsLoaded (start : ℕ) (load : ℕ → ℕ) (filling : Filling) : Typ
   pub last : (p : ℕ) → start ≤ p → p + 1 ≡ filling.begun → load p + filling.room ≤ 1638
 
 -- a group that fits on the last page
-fits : (start : ℕ) (load : ℕ → ℕ) (begun room size page : ℕ) → IsLoaded start load (record { begun = begun; room = room }) → 1 ≤ size → size ≤ room →
+fits : (start : ℕ) (load : ℕ → ℕ) (begun room size page : ℕ) →
+    IsLoaded start load (record { begun = begun; room = room }) → 1 ≤ size → size ≤ room →
     page ≡ begun - 1 → IsLoaded start (λ p. load p + share page size p) (record { begun = begun; room = room - size })
 fits start load begun room size page loaded some room_for is =
     let begins : start < begun = elim (cases_eq begun start) [
@@ -45,35 +49,50 @@ fits start load begun room size page loaded some room_for is =
       room = omega (arith, loaded.room);
       from = loaded.from;
       none = λ same. absurd (omega (arith, same, begins));
-      before = λ p below. omega (arith, loaded.before p below, share-none page size p (λ e. omega (arith, e, is, begins, below)));
-      after = λ p beyond. omega (arith, loaded.after p beyond, share-none page size p (λ e. omega (arith, e, is, begins, beyond)));
+      before =
+          λ p below. omega (arith, loaded.before p below,
+          share-none page size p (λ e. omega (arith, e, is, begins, below)));
+      after =
+          λ p beyond. omega (arith, loaded.after p beyond,
+          share-none page size p (λ e. omega (arith, e, is, begins, beyond)));
       some = λ p above below. omega (arith, loaded.some p above below);
       most = λ p above below. elim (cases_eq page p) [
-        | inl here ↦ omega (arith, loaded.last p above (omega (arith, is, here, begins)), share-here page size p here, room_for)
+        | inl here ↦ omega (arith, loaded.last p above (omega (arith, is, here, begins)), share-here page size p here,
+            room_for)
         | inr other ↦ omega (arith, loaded.most p above below, share-none page size p other)
       ];
-      last = λ p above end. omega (arith, loaded.last p above end, share-here page size p (omega (arith, is, end)), room_for);
+      last =
+          λ p above end. omega (arith, loaded.last p above end, share-here page size p (omega (arith, is, end)),
+          room_for);
     }
 
 -- a group that begins a page
-begins : (start : ℕ) (load : ℕ → ℕ) (begun room size page : ℕ) → IsLoaded start load (record { begun = begun; room = room }) → 1 ≤ size → size ≤ 1638 →
+begins : (start : ℕ) (load : ℕ → ℕ) (begun room size page : ℕ) →
+    IsLoaded start load (record { begun = begun; room = room }) → 1 ≤ size → size ≤ 1638 →
     page ≡ begun → IsLoaded start (λ p. load p + share page size p) (record { begun = begun + 1; room = 1638 - size })
 begins start load begun room size page loaded some most is =
     record {
       room = omega arith;
       from = omega (arith, loaded.from);
       none = λ same. absurd (omega (arith, same, loaded.from));
-      before = λ p below. omega (arith, loaded.before p below, share-none page size p (λ e. omega (arith, e, is, loaded.from, below)));
-      after = λ p beyond. omega (arith, loaded.after p (omega (arith, beyond)), share-none page size p (λ e. omega (arith, e, is, beyond)));
+      before =
+          λ p below. omega (arith, loaded.before p below,
+          share-none page size p (λ e. omega (arith, e, is, loaded.from, below)));
+      after =
+          λ p beyond. omega (arith, loaded.after p (omega (arith, beyond)),
+          share-none page size p (λ e. omega (arith, e, is, beyond)));
       some = λ p above below. elim (cases_eq page p) [
         | inl here ↦ omega (arith, share-here page size p here, some)
         | inr other ↦ let inside : p < begun = grind (arith, nat_tests) in omega (arith, loaded.some p above inside)
       ];
       most = λ p above below. elim (cases_eq page p) [
         | inl here ↦ omega (arith, share-here page size p here, most, loaded.after p (omega (arith, is, here)))
-        | inr other ↦ let inside : p < begun = grind (arith, nat_tests) in omega (arith, loaded.most p above inside, share-none page size p other)
+        | inr other ↦ let inside : p < begun =
+            grind (arith, nat_tests) in omega (arith, loaded.most p above inside, share-none page size p other)
       ];
-      last = λ p above end. omega (arith, loaded.after p (omega (arith, end)), share-here page size p (omega (arith, is, end)), most);
+      last =
+          λ p above end. omega (arith, loaded.after p (omega (arith, end)),
+          share-here page size p (omega (arith, is, end)), most);
     }
 
 -- what placing does, by the test
@@ -83,19 +102,24 @@ fitted filling size = record { begun = filling.begun; room = filling.room - size
 abbrev pub on_new : Filling → ℕ → Filling
 on_new filling size = record { begun = filling.begun + 1; room = 1638 - size }
 
-IsLoaded-place : (start : ℕ) (load : ℕ → ℕ) (filling : Filling) (size page : ℕ) → IsLoaded start load filling → 1 ≤ size → size ≤ 1638 →
+IsLoaded-place : (start : ℕ) (load : ℕ → ℕ) (filling : Filling) (size page : ℕ) → IsLoaded start load filling →
+    1 ≤ size → size ≤ 1638 →
     page ≡ (place filling size).begun - 1 → IsLoaded start (λ p. load p + share page size p) (place filling size)
 unfolding place
 IsLoaded-place start load filling size page loaded some most is = by (leb size filling.room) refl is
   where
-    by : (b : Bool) → leb size filling.room ≡ b → page ≡ (cond b (fitted filling size) (on_new filling size)).begun - 1 →
+    by : (b : Bool) → leb size filling.room ≡ b →
+        page ≡ (cond b (fitted filling size) (on_new filling size)).begun - 1 →
         IsLoaded start (λ p. load p + share page size p) (cond b (fitted filling size) (on_new filling size))
     by true test at = fits start load filling.begun filling.room size page loaded some (grind (arith, nat_tests)) at
     by false test at = begins start load filling.begun filling.room size page loaded some most (omega (arith, at))
 
-IsLoaded-step : (start : ℕ) (load : ℕ → ℕ) (filling : Filling) (size page : ℕ) (b : Bool) → IsLoaded start load filling → 1 ≤ size → size ≤ 1638 →
-    (b ≡ true → page ≡ (place filling size).begun - 1) → IsLoaded start (λ p. load p + cond b (share page size p) 0) (placed_if b size filling)
-IsLoaded-step start load filling size page true loaded some most is = IsLoaded-place start load filling size page loaded some most (is refl)
+IsLoaded-step : (start : ℕ) (load : ℕ → ℕ) (filling : Filling) (size page : ℕ) (b : Bool) →
+    IsLoaded start load filling → 1 ≤ size → size ≤ 1638 →
+    (b ≡ true → page ≡ (place filling size).begun - 1) →
+    IsLoaded start (λ p. load p + cond b (share page size p) 0) (placed_if b size filling)
+IsLoaded-step start load filling size page true loaded some most is =
+    IsLoaded-place start load filling size page loaded some most (is refl)
 IsLoaded-step start load filling size page false loaded some most is = record {
   room = loaded.room;
   from = loaded.from;
@@ -142,7 +166,8 @@ loaded start test heads page (suc n) placed =
     placed.pages n (omega arith) is ∙ ap (λ (f : Filling). f.begun - 1) (fill-more (closed_at start) test heads n)
     ∙ ap (λ b. (placed_if b (group_size heads n) (part start test heads n)).begun - 1) is in
     subst (IsLoaded start (λ p. load test page (group_size heads) p (suc n))) (sym more)
-    (IsLoaded-step start (λ p. load test page (group_size heads) p n) (part start test heads n) (group_size heads n) (page n) (test n) before
+    (IsLoaded-step start (λ p. load test page (group_size heads) p n) (part start test heads n) (group_size heads n)
+        (page n) (test n) before
     (placed.some n (omega arith)) (placed.most n (omega arith)) page_is)
 
 place-rises : (filling : Filling) (size : ℕ) → filling.begun ≤ (place filling size).begun
@@ -158,7 +183,8 @@ placed-rises filling size true = place-rises filling size
 placed-rises filling size false = omega arith
 
 -- no page number falls: a part with more groups has begun at least as many pages
-pub part-rises : (start : ℕ) (test : ℕ → Bool) (heads : Heads) (n more : ℕ) → (part start test heads n).begun ≤ (part start test heads (n + more)).begun
+pub part-rises : (start : ℕ) (test : ℕ → Bool) (heads : Heads) (n more : ℕ) →
+    (part start test heads n).begun ≤ (part start test heads (n + more)).begun
 part-rises start test heads n zero =
     let e : n + 0 ≡ n = omega arith in
     subst (λ k. (part start test heads n).begun ≤ (part start test heads k).begun) (sym e) (omega arith)
@@ -166,9 +192,12 @@ part-rises start test heads n (suc more) =
     let e : n + suc more ≡ (n + more) + 1 = omega arith in
     let step = ap (λ (f : Filling). f.begun) (fill-more (closed_at start) test heads (n + more)) in
     let rise = placed-rises (part start test heads (n + more)) (group_size heads (n + more)) (test (n + more)) in
-    subst (λ k. (part start test heads n).begun ≤ (part start test heads k).begun) (sym e) (omega (arith, part-rises start test heads n more, step, rise))
+    subst (λ k. (part start test heads n).begun ≤ (part start test heads k).begun) (sym e)
+        (omega (arith, part-rises start test heads n more, step, rise))
 
-pub part-rises-to : (start : ℕ) (test : ℕ → Bool) (heads : Heads) (n later : ℕ) → n ≤ later → (part start test heads n).begun ≤ (part start test heads later).begun
+pub part-rises-to : (start : ℕ) (test : ℕ → Bool) (heads : Heads) (n later : ℕ) → n ≤ later →
+    (part start test heads n).begun ≤ (part start test heads later).begun
 part-rises-to start test heads n later before =
     let e : n + (later - n) ≡ later = omega (arith, before) in
-    subst (λ k. (part start test heads n).begun ≤ (part start test heads k).begun) e (part-rises start test heads n (later - n))
+    subst (λ k. (part start test heads n).begun ≤ (part start test heads k).begun) e
+        (part-rises start test heads n (later - n))

@@ -1,5 +1,7 @@
 -- The first broken rule of heads, found among all indices, and what keeps the ranges of counts.
-use Rattle.std.proofs.Common.{◌≡◌, ℕ, zero, suc, ◌+◌, ◌<◌, ◌≤◌, Bool, true, false, None, Some, refl, ap, ◌∙◌, arith, inl, inr}
+use Rattle.std.proofs.Common.{
+  ◌≡◌, ℕ, zero, suc, ◌+◌, ◌<◌, ◌≤◌, Bool, true, false, None, Some, refl, ap, ◌∙◌, arith, inl, inr,
+}
 use Rattle.std.specs.List.{find, range_with_len}
 use Rattle.std.specs.Option.{option_map}
 use Rattle.std.proofs.Math.Nat.{eq-or-lt_of_le}
@@ -28,7 +30,8 @@ find-first test a (suc n) i from below is before = elim (eq-or-lt_of_le from) [
 -- ---- one rule
 
 -- a broken rule is broken at an index that is looked at
-below-places : (heads : Heads) (rule i : ℕ) → ((past : ℕ) → places heads ≤ past → breaks rule heads past ≡ false) → breaks rule heads i ≡ true → i < places heads
+below-places : (heads : Heads) (rule i : ℕ) → ((past : ℕ) → places heads ≤ past → breaks rule heads past ≡ false) →
+    breaks rule heads i ≡ true → i < places heads
 below-places heads rule i kept broken = elim (cases_lt i (places heads)) [
   | inl below ↦ below
   | inr past ↦ absurd (both_ways (breaks rule heads i) (kept i past) broken)
@@ -36,13 +39,16 @@ below-places heads rule i kept broken = elim (cases_lt i (places heads)) [
 
 rule-kept : (heads : Heads) (rule : ℕ) → ((i : ℕ) → breaks rule heads i ≡ false) → rule_fault heads rule ≡ None
 unfolding rule_fault
-rule-kept heads rule kept = ap (option_map (λ index. Rule rule index)) (find-none (breaks rule heads) kept 0 (places heads))
+rule-kept heads rule kept =
+    ap (option_map (λ index. Rule rule index)) (find-none (breaks rule heads) kept 0 (places heads))
 
-rule-broken : (heads : Heads) (rule i : ℕ) → i < places heads → breaks rule heads i ≡ true → ((j : ℕ) → j < i → breaks rule heads j ≡ false)
+rule-broken : (heads : Heads) (rule i : ℕ) → i < places heads → breaks rule heads i ≡ true →
+    ((j : ℕ) → j < i → breaks rule heads j ≡ false)
     → rule_fault heads rule ≡ Some (Rule rule i)
 unfolding rule_fault
 rule-broken heads rule i below broken before =
-    ap (option_map (λ index. Rule rule index)) (find-first (breaks rule heads) 0 (places heads) i (omega arith) (omega (arith, below)) broken before)
+    ap (option_map (λ index. Rule rule index))
+        (find-first (breaks rule heads) 0 (places heads) i (omega arith) (omega (arith, below)) broken before)
 
 -- ---- all five
 
@@ -52,7 +58,8 @@ no_rule rule heads i past = grind (arith, nat_tests)
 pub rules-kept : (heads : Heads) → Checked heads → rules_fault heads ≡ None
 unfolding rules_fault
 rules-kept heads checked =
-    rw (rule-kept heads 1 (checked 1), rule-kept heads 2 (checked 2), rule-kept heads 3 (checked 3), rule-kept heads 4 (checked 4), rule-kept heads 5 (checked 5)) refl
+    rw (rule-kept heads 1 (checked 1), rule-kept heads 2 (checked 2), rule-kept heads 3 (checked 3),
+        rule-kept heads 4 (checked 4), rule-kept heads 5 (checked 5)) refl
 
 pub rules-broken : (heads : Heads) (rule i : ℕ) → IsFirstBreak heads rule i → rules_fault heads ≡ Some (Rule rule i)
 unfolding rules_fault
@@ -62,10 +69,13 @@ rules-broken heads (suc zero) i first =
     rw (rule-broken heads 1 i below first.broken first.first_index) refl
 rules-broken heads (suc (suc zero)) i first =
     let below = below-places heads 2 i (λ past far. maker_beyond heads past (omega arith)) first.broken in
-    rw (rule-kept heads 1 (λ j. first.first_rule 1 j (omega arith)), rule-broken heads 2 i below first.broken first.first_index) refl
+    rw (rule-kept heads 1 (λ j. first.first_rule 1 j (omega arith)),
+        rule-broken heads 2 i below first.broken first.first_index) refl
 rules-broken heads (suc (suc (suc zero))) i first =
     let below = below-places heads 3 i (λ past far. terminal_beyond heads past (omega arith)) first.broken in
-    rw (rule-kept heads 1 (λ j. first.first_rule 1 j (omega arith)), rule-kept heads 2 (λ j. first.first_rule 2 j (omega arith)), rule-broken heads 3 i below first.broken first.first_index) refl
+    rw (rule-kept heads 1 (λ j. first.first_rule 1 j (omega arith)),
+        rule-kept heads 2 (λ j. first.first_rule 2 j (omega arith)),
+        rule-broken heads 3 i below first.broken first.first_index) refl
 rules-broken heads (suc (suc (suc (suc zero)))) i first =
     let below = below-places heads 4 i (λ past far. bound_beyond heads past (omega arith)) first.broken in
     rw (
@@ -84,4 +94,5 @@ rules-broken heads (suc (suc (suc (suc (suc zero))))) i first =
       rule-broken heads 5 i below first.broken first.first_index,
     ) refl
 rules-broken heads (suc (suc (suc (suc (suc (suc rule)))))) i first =
-    absurd (both_ways (breaks (suc (suc (suc (suc (suc (suc rule)))))) heads i) (no_rule (suc (suc (suc (suc (suc (suc rule)))))) heads i (omega arith)) first.broken)
+    absurd (both_ways (breaks (suc (suc (suc (suc (suc (suc rule)))))) heads i)
+        (no_rule (suc (suc (suc (suc (suc (suc rule)))))) heads i (omega arith)) first.broken)

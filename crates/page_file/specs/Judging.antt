@@ -1,5 +1,7 @@
 -- How each part of a page file is judged: the first fault of the header, of the directory and of a page.
-use Rattle.std.specs.Prelude.{Bool, true, false, not, ◌==◌, ℕ, ◌+◌, List, [], length, take, Option, Some, None, Result, Ok, Err, slice_index_or}
+use Rattle.std.specs.Prelude.{
+  Bool, true, false, not, ◌==◌, ℕ, ◌+◌, List, [], length, take, Option, Some, None, Result, Ok, Err, slice_index_or,
+}
 use Rattle.std.specs.List.{find, range_with_len}
 use Rattle.std.specs.Option.{option_or, option_map}
 use Rattle.std.specs.Str.{bytes_eq}
@@ -18,7 +20,9 @@ use Rattle.page_codec.specs.Breaks.{first_directory_break, first_page_break}
 use Rattle.page_codec.specs.Reading.{header_of, directory_of, page_of}
 use Rattle.page_codec.specs.Spelling.{magic, directory_digest}
 use Rattle.page_file.specs.declared.open_faults.OpenFault.{OpenFault}
-use Rattle.page_file.specs.declared.open_faults.OpenFault.TheVariants.{Magic, Version, DirectoryDigest, DirectoryBad, Rule, PageDigest, PageBad}
+use Rattle.page_file.specs.declared.open_faults.OpenFault.TheVariants.{
+  Magic, Version, DirectoryDigest, DirectoryBad, Rule, PageDigest, PageBad,
+}
 
 -- this fault, unless that holds
 abbrev pub fault_unless : Bool → OpenFault → Option OpenFault
@@ -68,7 +72,8 @@ places heads = length heads.groups + length heads.clusters + heads.pages + 1
 
 -- the first index at which the rule is broken
 unfoldable pub rule_fault : Heads → ℕ → Option OpenFault
-rule_fault heads rule = option_map (λ index. Rule rule index) (find (breaks rule heads) (range_with_len 0 (places heads)))
+rule_fault heads rule =
+    option_map (λ index. Rule rule index) (find (breaks rule heads) (range_with_len 0 (places heads)))
 
 -- the first of rules 1 to 5 that is broken, at its first index
 unfoldable pub rules_fault : Heads → Option OpenFault

@@ -1,6 +1,8 @@
 -- The opening of a page file, over its bytes: they are cut at the places of its parts, and each part is judged before
 -- the next one is cut. The answer is the first fault, or what the parts spell.
-use Rattle.std.specs.Prelude.{nat_le, ℕ, zero, suc, ◌+◌, List, [], ◌∷◌, ◌++◌, length, take, drop, Result, Ok, Err, if◌then◌else◌}
+use Rattle.std.specs.Prelude.{
+  nat_le, ℕ, zero, suc, ◌+◌, List, [], ◌∷◌, ◌++◌, length, take, drop, Result, Ok, Err, if◌then◌else◌,
+}
 use Rattle.geom_core.specs.declared.limits.TheConstants.{PAGE_BYTES}
 use Rattle.dag_core.specs.declared.counts.Counts.{Counts}
 use Rattle.dag_core.specs.Ranges.{counts_of}
@@ -21,7 +23,8 @@ followed_by (Err fault) next = Err fault
 
 -- the `len` bytes from a place on; the file is truncated if they aren't all there
 unfoldable pub cut : ℕ → ℕ → List ℕ → Result (List ℕ) OpenFault
-cut at len bytes = if nat_le (at + len) (length bytes) then Ok (take len (drop at bytes)) else Err (Truncated (length bytes))
+cut at len bytes =
+    if nat_le (at + len) (length bytes) then Ok (take len (drop at bytes)) else Err (Truncated (length bytes))
 
 -- the header
 unfoldable pub header_opened : List ℕ → Result Header OpenFault
@@ -34,7 +37,8 @@ directory_opened bytes = followed_by (header_opened bytes)
 
 -- page p
 unfoldable pub page_opened : Directory → ℕ → List ℕ → Result Page OpenFault
-page_opened directory p bytes = followed_by (cut (page_at (counts_of directory.heads) p) PAGE_BYTES bytes) (page_judged directory p)
+page_opened directory p bytes =
+    followed_by (cut (page_at (counts_of directory.heads) p) PAGE_BYTES bytes) (page_judged directory p)
 
 -- the first n pages, ascending
 abbrev pub pages_opened : Directory → ℕ → List ℕ → Result (List Page) OpenFault

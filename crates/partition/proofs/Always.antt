@@ -1,6 +1,12 @@
 -- There is always a grown order: the next item exists while not all are placed, and so an order of each length.
-use Rattle.std.proofs.Common.{◌≡◌, ◌<◌, ◌≤◌, ◌+◌, ◌⊎◌, inl, inr, ℕ, zero, suc, Bool, true, false, ◌&&◌, ◌||◌, eqb, ltb, cond, List, [], ◌∷◌, ◌++◌, length, get_or, set, replicate, refl, sym, ap, ◌∙◌, arith}
-use Rattle.std.proofs.lemmas.Bool.{and_from, and_parts, or_cases, or_left, or_right, cases_Bool, cases_lt, cases_order, eqb-true, ltb-true, eq-eqb, lt-ltb, both_ways}
+use Rattle.std.proofs.Common.{
+  ◌≡◌, ◌<◌, ◌≤◌, ◌+◌, ◌⊎◌, inl, inr, ℕ, zero, suc, Bool, true, false, ◌&&◌, ◌||◌, eqb, ltb, cond, List, [], ◌∷◌, ◌++◌,
+  length, get_or, set, replicate, refl, sym, ap, ◌∙◌, arith,
+}
+use Rattle.std.proofs.lemmas.Bool.{
+  and_from, and_parts, or_cases, or_left, or_right, cases_Bool, cases_lt, cases_order, eqb-true, ltb-true, eq-eqb,
+  lt-ltb, both_ways,
+}
 use Rattle.std.proofs.lemmas.List.{get_or-replicate, length-replicate, length-set, length_push}
 use Rattle.partition.specs.Internal.Frontiers.{IsLeft}
 use Rattle.partition.specs.Growing.{goes_before, is_chosen, is_grown, is_in, ranks_before, touches}
@@ -42,7 +48,8 @@ ranks-total key i j other =
       ]
     ]
 
-ranks-trans : (key : ℕ → ℕ) (i j k : ℕ) → ranks_before key i j ≡ true → ranks_before key j k ≡ true → ranks_before key i k ≡ true
+ranks-trans : (key : ℕ → ℕ) (i j k : ℕ) → ranks_before key i j ≡ true → ranks_before key j k ≡ true →
+    ranks_before key i k ≡ true
 ranks-trans key i j k h g =
     elim (ranks-true key i j h) [
       | inl first ↦ elim (ranks-true key j k g) [
@@ -59,7 +66,8 @@ ranks-trans key i j k h g =
 abbrev first_of : Bool → Bool → Bool → Bool
 first_of near_i near_j less = cond near_j (near_i && less) (near_i || less)
 
-goes-total : (near_i near_j less more : Bool) → (less ≡ true) ⊎ (more ≡ true) → (first_of near_i near_j less ≡ true) ⊎ (first_of near_j near_i more ≡ true)
+goes-total : (near_i near_j less more : Bool) → (less ≡ true) ⊎ (more ≡ true) →
+    (first_of near_i near_j less ≡ true) ⊎ (first_of near_j near_i more ≡ true)
 goes-total true true less more either = either
 goes-total true false less more either = inl refl
 goes-total false true less more either = inr refl
@@ -79,12 +87,15 @@ goes-trans false false false ij jk ik trans h g = trans h g
 before-total : (key : ℕ → ℕ) (near : ℕ → ℕ → Bool) (batch : List ℕ) (i j : ℕ) → (i ≡ j → ⊥) →
     (goes_before key near batch i j ≡ true) ⊎ (goes_before key near batch j i ≡ true)
 before-total key near batch i j other =
-    goes-total (touches near batch i) (touches near batch j) (ranks_before key i j) (ranks_before key j i) (ranks-total key i j other)
+    goes-total (touches near batch i) (touches near batch j) (ranks_before key i j) (ranks_before key j i)
+        (ranks-total key i j other)
 
-before-trans : (key : ℕ → ℕ) (near : ℕ → ℕ → Bool) (batch : List ℕ) (i j k : ℕ) → goes_before key near batch i j ≡ true →
+before-trans : (key : ℕ → ℕ) (near : ℕ → ℕ → Bool) (batch : List ℕ) (i j k : ℕ) →
+    goes_before key near batch i j ≡ true →
     goes_before key near batch j k ≡ true → goes_before key near batch i k ≡ true
 before-trans key near batch i j k h g =
-    goes-trans (touches near batch i) (touches near batch j) (touches near batch k) (ranks_before key i j) (ranks_before key j k) (ranks_before key i k)
+    goes-trans (touches near batch i) (touches near batch j) (touches near batch k) (ranks_before key i j)
+        (ranks_before key j k) (ranks_before key i k)
     (ranks-trans key i j k) h g
 
 -- of the items below a limit all are placed, or one goes first
@@ -126,7 +137,8 @@ first_below (suc n) key near placed batch =
       ];
     }
 
-    wider : (n : ℕ) (key : ℕ → ℕ) (near : ℕ → ℕ → Bool) (placed batch : List ℕ) (i : ℕ) → goes_before key near batch i n ≡ true →
+    wider : (n : ℕ) (key : ℕ → ℕ) (near : ℕ → ℕ → Bool) (placed batch : List ℕ) (i : ℕ) →
+        goes_before key near batch i n ≡ true →
         IsNext n key near placed batch i → IsNext (suc n) key near placed batch i
     wider n key near placed batch i stays is = record {
       below = omega (arith, is.below);
@@ -151,7 +163,8 @@ first_below (suc n) key near placed batch =
     }
 
     replaced : (n : ℕ) (key : ℕ → ℕ) (near : ℕ → ℕ → Bool) (placed batch : List ℕ) (i : ℕ) → is_in placed n ≡ false →
-        goes_before key near batch n i ≡ true → IsNext n key near placed batch i → IsNext (suc n) key near placed batch n
+        goes_before key near batch n i ≡ true → IsNext n key near placed batch i →
+        IsNext (suc n) key near placed batch n
     replaced n key near placed batch i left goes is = record {
       below = omega arith;
       left = left;
@@ -187,8 +200,10 @@ front_of n key near size (suc k) h =
     let before : HasFront n key near size k = front_of n key near size k (omega arith) in
     more n key near size k h before (first_below n key near before.front (batch_of size before.front))
   where
-    more : (n : ℕ) (key : ℕ → ℕ) (near : ℕ → ℕ → Bool) (size k : ℕ) → suc k ≤ n → (before : HasFront n key near size k) →
-        ((j : ℕ) → j < n → is_in before.front j ≡ true) ⊎ ((i : ℕ) × IsNext n key near before.front (batch_of size before.front) i) →
+    more : (n : ℕ) (key : ℕ → ℕ) (near : ℕ → ℕ → Bool) (size k : ℕ) → suc k ≤ n →
+        (before : HasFront n key near size k) →
+        ((j : ℕ) → j < n → is_in before.front j ≡ true) ⊎
+        ((i : ℕ) × IsNext n key near before.front (batch_of size before.front) i) →
         HasFront n key near size (suc k)
     more n key near size k h before (inl all) =
         let marked : IsMarked n before.front = before.marked in
@@ -207,21 +222,28 @@ front_of n key near size (suc k) h =
           front = before.front ++ item ∷ [];
           long = omega (arith, length_push before.front item);
           chosen = λ place below. elim (cases_lt place k) [
-            | inl earlier ↦ is_chosen-before n key near size before.front item place (omega arith) (before.chosen place earlier)
+            | inl earlier ↦ is_chosen-before n key near size before.front item place (omega arith)
+                (before.chosen place earlier)
             | inr past ↦
                 let here : place ≡ length before.front = omega arith in
-                rw here (is_chosen-here n key near size before.front item (is_next-from n key near before.front (batch_of size before.front) item next))
+                rw here (is_chosen-here n key near size before.front item
+                    (is_next-from n key near before.front (batch_of size before.front) item next))
           ];
           marked = record {
             marks = set marked.marks item true;
             long = length-set marked.marks item true ∙ long;
-            are = λ other below. marks-more marked.marks before.front item (omega (arith, next.below)) (λ j g. marked.are j (omega arith)) other (omega (arith, length-set marked.marks item true));
-            counted = count-more marked.marks item left ∙ ap (λ c. c + 1) marked.counted ∙ sym (length_push before.front item);
+            are =
+                λ other below. marks-more marked.marks before.front item (omega (arith, next.below))
+                (λ j g. marked.are j (omega arith)) other (omega (arith, length-set marked.marks item true));
+            counted =
+                count-more marked.marks item left ∙ ap (λ c. c + 1) marked.counted ∙
+                sym (length_push before.front item);
           };
         }
 
 -- there is a grown order
-pub always_grows : (n size : ℕ) (key : ℕ → ℕ) (near : ℕ → ℕ → Bool) → (order : List ℕ) × (is_grown n key near size order ≡ true)
+pub always_grows : (n size : ℕ) (key : ℕ → ℕ) (near : ℕ → ℕ → Bool) → (order : List ℕ) ×
+    (is_grown n key near size order ≡ true)
 always_grows n size key near =
     let whole : HasFront n key near size n = front_of n key near size n (omega arith) in
     (whole.front, is_grown-from n key near size whole.front whole.long whole.chosen)

@@ -1,5 +1,8 @@
 -- Batches of items: they are determined, have each item once, and are full but the last.
-use Rattle.std.proofs.Common.{◌≡◌, ◌<◌, ◌≤◌, ◌+◌, ◌*◌, inl, inr, ℕ, zero, suc, List, [], ◌∷◌, length, slice_index, All, true, sym, ap, ◌∙◌, subst, arith}
+use Rattle.std.proofs.Common.{
+  ◌≡◌, ◌<◌, ◌≤◌, ◌+◌, ◌*◌, inl, inr, ℕ, zero, suc, List, [], ◌∷◌, length, slice_index, All, true, sym, ap, ◌∙◌, subst,
+  arith,
+}
 use Rattle.std.specs.List.{concat}
 use Rattle.std.proofs.lemmas.Bool.{cases_lt}
 use Rattle.std.proofs.lemmas.List.{get_or_default, get_or-append-add, get_or_append_left, length-append}
@@ -16,7 +19,8 @@ use Rattle.partition.proofs.OnePlace.{next_at}
 
 -- ---- the batches are determined
 
-pub batches_exist : (keys : List ℕ) (edges : List (List (Pt × Pt))) (size : ℕ) → 0 < size → (batches : List (List ℕ)) × AreBatches keys edges size batches
+pub batches_exist : (keys : List ℕ) (edges : List (List (Pt × Pt))) (size : ℕ) → 0 < size → (batches : List (List ℕ)) ×
+    AreBatches keys edges size batches
 batches_exist keys edges size some =
     let grown = always_grows (length keys) size (slice_index keys) (are_neighbours edges) in
     let order : List ℕ = grown.0 in
@@ -28,7 +32,8 @@ pub batches_equal : (keys : List ℕ) (edges : List (List (Pt × Pt))) (size : �
     AreBatches keys edges size batches → AreBatches keys edges size other → batches ≡ other
 batches_equal keys edges size batches other b o =
     let same : concat batches ≡ concat other =
-    grown_orders_equal (length keys) size (slice_index keys) (are_neighbours edges) (concat batches) (concat other) b.grown o.grown in
+    grown_orders_equal (length keys) size (slice_index keys) (are_neighbours edges) (concat batches)
+        (concat other) b.grown o.grown in
     b.split ∙ (ap (batches_of size) same ∙ sym o.split)
 
 -- ---- how many they are, and how long
@@ -50,7 +55,8 @@ full_of_items keys edges size batches some b =
     let Q : List (List ℕ) → Type 0 = λ bs. AreFullButLast size (length keys) bs in
     subst Q (sym b.split) (subst P grown.whole (full_of_order size (concat batches) some))
 
-pub no_more_batches : (size total : ℕ) (batches : List (List ℕ)) → 0 < size → AreFullButLast size total batches → length batches ≤ total
+pub no_more_batches : (size total : ℕ) (batches : List (List ℕ)) → 0 < size → AreFullButLast size total batches →
+    length batches ≤ total
 no_more_batches size total batches some full =
     elim (cases_lt total (length batches)) [
       | inl more ↦
@@ -76,9 +82,11 @@ parts_below n [] all k d h = absurd (omega arith)
 parts_below n (b ∷ bs) all zero d h = λ j e below.
     rw (← get_or_append_left b (concat bs) e j below) (all j e (omega (arith, length-append b (concat bs))))
 parts_below n (b ∷ bs) all (suc k) d h =
-    parts_below n bs (λ j e below. rw (← get_or-append-add b (concat bs) j e) (all (length b + j) e (omega (arith, length-append b (concat bs))))) k d (omega arith)
+    parts_below n bs (λ j e below. rw (← get_or-append-add b (concat bs) j e)
+        (all (length b + j) e (omega (arith, length-append b (concat bs))))) k d (omega arith)
 
-pub numbers_below : (keys : List ℕ) (edges : List (List (Pt × Pt))) (size : ℕ) (batches : List (List ℕ)) → AreBatches keys edges size batches →
+pub numbers_below : (keys : List ℕ) (edges : List (List (Pt × Pt))) (size : ℕ) (batches : List (List ℕ)) →
+    AreBatches keys edges size batches →
     All (λ batch. AreBelow (length keys) batch) batches
 numbers_below keys edges size batches b =
     parts_below (length keys) batches

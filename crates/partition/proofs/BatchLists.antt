@@ -1,5 +1,8 @@
 -- Lists that grow by one in a loop, batches joined, and batches of ranks replaced by numbers.
-use Rattle.std.proofs.Common.{◌≡◌, ℕ, zero, suc, ◌+◌, ◌-◌, ◌*◌, ◌<◌, ◌≤◌, Bool, true, false, cond, List, [], ◌∷◌, ◌++◌, length, get_or, take, drop, map, filter, slice_index, All, sym, ap, ◌∙◌, subst, arith, add-zero, zero-add, append-nil, length-take}
+use Rattle.std.proofs.Common.{
+  ◌≡◌, ℕ, zero, suc, ◌+◌, ◌-◌, ◌*◌, ◌<◌, ◌≤◌, Bool, true, false, cond, List, [], ◌∷◌, ◌++◌, length, get_or, take, drop,
+  map, filter, slice_index, All, sym, ap, ◌∙◌, subst, arith, add-zero, zero-add, append-nil, length-take,
+}
 use mathlib.Core.Path.{fun_ext}
 use Rattle.std.specs.Fork.{slice_chunk}
 use Rattle.std.specs.List.{concat, enumerate_from, range_with_len, slice_index_or}
@@ -29,13 +32,15 @@ range_more n =
     ∙ (map-range_with_len_more (λ k. k) 0 n n (zero-add n)
     ∙ ap (λ xs. xs ++ n ∷ []) (map-id (range_with_len 0 n)))
 
-pub filter_range_pass : (q : ℕ → Bool) (n : ℕ) → q n ≡ true → filter q (range_with_len 0 (n + 1)) ≡ filter q (range_with_len 0 n) ++ n ∷ []
+pub filter_range_pass : (q : ℕ → Bool) (n : ℕ) → q n ≡ true →
+    filter q (range_with_len 0 (n + 1)) ≡ filter q (range_with_len 0 n) ++ n ∷ []
 filter_range_pass q n e =
     ap (filter q) (range_more n)
     ∙ (filter-append q (range_with_len 0 n) (n ∷ [])
     ∙ ap (λ b. filter q (range_with_len 0 n) ++ cond b (n ∷ []) []) e)
 
-pub filter_range_fail : (q : ℕ → Bool) (n : ℕ) → q n ≡ false → filter q (range_with_len 0 (n + 1)) ≡ filter q (range_with_len 0 n)
+pub filter_range_fail : (q : ℕ → Bool) (n : ℕ) → q n ≡ false →
+    filter q (range_with_len 0 (n + 1)) ≡ filter q (range_with_len 0 n)
 filter_range_fail q n e =
     ap (filter q) (range_more n)
     ∙ (filter-append q (range_with_len 0 n) (n ∷ [])
@@ -45,14 +50,17 @@ filter_range_fail q n e =
 abbrev keyed : ℕ × ℕ → Keyed
 keyed p = record { key = p.1; number = p.0 }
 
-keyed_push : (a : ℕ) (keys : List ℕ) (k : ℕ) → map keyed (enumerate_from a (keys ++ k ∷ [])) ≡ map keyed (enumerate_from a keys) ++ keyed (a + length keys, k) ∷ []
+keyed_push : (a : ℕ) (keys : List ℕ) (k : ℕ) →
+    map keyed (enumerate_from a (keys ++ k ∷ [])) ≡ map keyed (enumerate_from a keys) ++ keyed (a + length keys, k) ∷ []
 keyed_push a [] k = ap (λ m. keyed (m, k) ∷ []) (sym (add-zero a))
 keyed_push a (x ∷ keys) k =
     let e : a + 1 + length keys ≡ a + suc (length keys) = omega arith in
-    ap (λ xs. keyed (a, x) ∷ xs) (keyed_push (a + 1) keys k ∙ ap (λ m. map keyed (enumerate_from (a + 1) keys) ++ keyed (m, k) ∷ []) e)
+    ap (λ xs. keyed (a, x) ∷ xs) (keyed_push (a + 1) keys k ∙
+        ap (λ m. map keyed (enumerate_from (a + 1) keys) ++ keyed (m, k) ∷ []) e)
 
 pub keyed_more : (keys : List ℕ) (n : ℕ) → n < length keys →
-    map keyed (enumerate_from 0 (take (n + 1) keys)) ≡ map keyed (enumerate_from 0 (take n keys)) ++ keyed (n, get_or keys n 0) ∷ []
+    map keyed (enumerate_from 0 (take (n + 1) keys)) ≡ map keyed (enumerate_from 0 (take n keys)) ++ keyed
+    (n, get_or keys n 0) ∷ []
 keyed_more keys n h =
     let len : 0 + length (take n keys) ≡ n = omega (arith, length-take n keys) in
     ap (λ xs. map keyed (enumerate_from 0 xs)) (take_more keys n 0 h)
@@ -61,27 +69,31 @@ keyed_more keys n h =
 
 -- ---- batches joined
 
-joined_chunks : (xs : List ℕ) (size a m : ℕ) → concat (map (slice_chunk xs size) (range_with_len a m)) ≡ take (m * size) (drop (a * size) xs)
+joined_chunks : (xs : List ℕ) (size a m : ℕ) →
+    concat (map (slice_chunk xs size) (range_with_len a m)) ≡ take (m * size) (drop (a * size) xs)
 joined_chunks xs size a zero = let e : 0 * size ≡ 0 = omega arith in ap (λ n. take n (drop (a * size) xs)) (sym e)
 joined_chunks xs size a (suc m) =
     let more : size + m * size ≡ suc m * size = omega arith in
     let next : a * size + size ≡ (a + 1) * size = omega arith in
     ap (λ ys. take size (drop (a * size) xs) ++ ys)
-    (joined_chunks xs size (a + 1) m ∙ ap (λ ys. take (m * size) ys) (ap (λ n. drop n xs) (sym next) ∙ sym (drop-drop size (a * size) xs)))
+    (joined_chunks xs size (a + 1) m ∙ ap (λ ys. take (m * size) ys)
+        (ap (λ n. drop n xs) (sym next) ∙ sym (drop-drop size (a * size) xs)))
     ∙ (sym (take-add size (m * size) (drop (a * size) xs)) ∙ ap (λ n. take n (drop (a * size) xs)) more)
 
 pub concat-batches_of : (size : ℕ) (xs : List ℕ) → 0 < size → concat (batches_of size xs) ≡ xs
 unfolding batches_of
 concat-batches_of size xs h =
     let none : 0 * size ≡ 0 = omega arith in
-    let enough : length xs ≤ batch_count size xs * size = omega (arith, lt-div-mul-add {a = length xs + (size - 1)} {b = size} h) in
+    let enough : length xs ≤ batch_count size xs * size =
+        omega (arith, lt-div-mul-add {a = length xs + (size - 1)} {b = size} h) in
     joined_chunks xs size 0 (batch_count size xs)
     ∙ (ap (λ n. take (batch_count size xs * size) (drop n xs)) none
     ∙ take_all (batch_count size xs * size) xs enough)
 
 -- ---- items are adjacent by shared edges and by edge uses alike
 
-pub is_grown_same : (n : ℕ) (near other : ℕ → ℕ → Bool) (size : ℕ) (ranks : List ℕ) → ((i j : ℕ) → near i j ≡ other i j) →
+pub is_grown_same : (n : ℕ) (near other : ℕ → ℕ → Bool) (size : ℕ) (ranks : List ℕ) →
+    ((i j : ℕ) → near i j ≡ other i j) →
     is_grown n (λ _. 0) near size ranks ≡ true → is_grown n (λ _. 0) other size ranks ≡ true
 is_grown_same n near other size ranks f e =
     let same : near ≡ other = fun_ext (λ i. fun_ext (λ j. f i j)) in
@@ -91,7 +103,8 @@ is_grown_same n near other size ranks f e =
 -- ---- rankings
 
 pub length-ranking : (keys order : List ℕ) → IsRanking keys order → length order ≡ length keys
-length-ranking keys order s = length_permutation (range_with_len 0 (length keys)) order s.all ∙ length-range_with_len 0 (length keys)
+length-ranking keys order s =
+    length_permutation (range_with_len 0 (length keys)) order s.all ∙ length-range_with_len 0 (length keys)
 
 pub All-ranking : (keys order : List ℕ) → IsRanking keys order → All (λ i. i < length keys) order
 All-ranking keys order s =
@@ -101,12 +114,15 @@ All-ranking keys order s =
 
 -- ---- batches of ranks replaced by numbers
 
-pub batches_from_renumbered : (keys : List ℕ) (edges : List (List (Pt × Pt))) (order : List ℕ) (uses : List EdgeUse) (size : ℕ) (batches : List (List ℕ)) →
-    0 < size → IsRanking keys order → uses ≡ uses_from 0 (in_order edges order) → AreBatchesOfRanks order uses size batches → AreBatches keys edges size batches
+pub batches_from_renumbered : (keys : List ℕ) (edges : List (List (Pt × Pt))) (order : List ℕ) (uses : List EdgeUse)
+    (size : ℕ) (batches : List (List ℕ)) →
+    0 < size → IsRanking keys order → uses ≡ uses_from 0 (in_order edges order) →
+    AreBatchesOfRanks order uses size batches → AreBatches keys edges size batches
 batches_from_renumbered keys edges order uses size batches h ranked e t =
     let len : length order ≡ length keys = length-ranking keys order ranked in
     let item : ℕ → List (Pt × Pt) = λ number. slice_index_or edges number [] in
-    let near_is : (r s : ℕ) → r < length keys → s < length keys → are_adjacent_in uses r s ≡ are_neighbours edges (slice_index order r) (slice_index order s) =
+    let near_is : (r s : ℕ) → r < length keys → s < length keys →
+        are_adjacent_in uses r s ≡ are_neighbours edges (slice_index order r) (slice_index order s) =
     λ r s hr hs.
     ap (λ xs. are_adjacent_in xs r s) e
     ∙ (are_adjacent_in-uses_from (in_order edges order) r s
@@ -120,6 +136,7 @@ batches_from_renumbered keys edges order uses size batches h ranked e t =
     record {
       grown = subst Q (sym joined)
           (grown_renumbered (length keys) (slice_index keys) (are_adjacent_in uses) (are_neighbours edges) order
-          (renumbers keys order (are_adjacent_in uses) (are_neighbours edges) ranked near_is) size t.ranks (subst P len t.grown));
+          (renumbers keys order (are_adjacent_in uses) (are_neighbours edges) ranked near_is) size t.ranks
+              (subst P len t.grown));
       split = t.split ∙ ap (batches_of size) (sym joined);
     }

@@ -83,7 +83,8 @@ unfolding batches_of
 batches_none = refl
 
 -- shared edges in one flat list
-pub shared_edges_in_a_row : shared_edges_of (0 ∷ 1 ∷ 5 ∷ 2 ∷ []) (0 ∷ 2 ∷ 2 ∷ 4 ∷ []) ≡ (0 ∷ 1 ∷ []) ∷ [] ∷ (5 ∷ 2 ∷ []) ∷ []
+pub shared_edges_in_a_row : shared_edges_of (0 ∷ 1 ∷ 5 ∷ 2 ∷ []) (0 ∷ 2 ∷ 2 ∷ 4 ∷ []) ≡ (0 ∷ 1 ∷ []) ∷ [] ∷
+    (5 ∷ 2 ∷ []) ∷ []
 shared_edges_in_a_row = refl
 
 -- lesser keys first, at equal keys lesser numbers

@@ -1,5 +1,7 @@
 -- Worked examples of batches, clusters and groups, computed by the checker.
-use Rattle.std.proofs.Common.{◌≡◌, ◌<◌, ◌≤◌, ◌+◌, ℕ, zero, suc, ◌∷◌, [], List, pos, true, length, get_or, refl, ap, arith}
+use Rattle.std.proofs.Common.{
+  ◌≡◌, ◌<◌, ◌≤◌, ◌+◌, ℕ, zero, suc, ◌∷◌, [], List, pos, true, length, get_or, refl, ap, arith,
+}
 use Rattle.std.proofs.lemmas.Bool.{false≢true}
 use Rattle.std.specs.List.{concat}
 use Rattle.geom_core.specs.declared.points.Pt.{Pt}
@@ -51,12 +53,14 @@ batches_not_short b =
     absurd (omega (arith, first))
 
 -- Items 0 and 2 share an edge: 2 comes before 1, which has a lesser key.
-pub batches_by_edge : AreBatches (1 ∷ 2 ∷ 3 ∷ []) (((point 0, point 8) ∷ []) ∷ [] ∷ ((point 8, point 0) ∷ []) ∷ []) 8 ((0 ∷ 2 ∷ 1 ∷ []) ∷ [])
+pub batches_by_edge : AreBatches (1 ∷ 2 ∷ 3 ∷ []) (((point 0, point 8) ∷ []) ∷ [] ∷ ((point 8, point 0) ∷ []) ∷ []) 8
+    ((0 ∷ 2 ∷ 1 ∷ []) ∷ [])
 unfolding is_grown is_next share_edge same_edge same_point batches_of
 batches_by_edge = record { grown = refl; split = refl }
 
 -- With one item a batch the second batch begins empty, so 1 comes before 2.
-pub batches_end : AreBatches (1 ∷ 2 ∷ 3 ∷ []) (((point 0, point 8) ∷ []) ∷ [] ∷ ((point 8, point 0) ∷ []) ∷ []) 1 ((0 ∷ []) ∷ (1 ∷ []) ∷ (2 ∷ []) ∷ [])
+pub batches_end : AreBatches (1 ∷ 2 ∷ 3 ∷ []) (((point 0, point 8) ∷ []) ∷ [] ∷ ((point 8, point 0) ∷ []) ∷ []) 1
+    ((0 ∷ []) ∷ (1 ∷ []) ∷ (2 ∷ []) ∷ [])
 unfolding is_grown is_next share_edge same_edge same_point batches_of
 batches_end = record { grown = refl; split = refl }
 
@@ -127,14 +131,16 @@ clusters_not_by_number c = absurd (false≢true c.grown)
 -- The first and the last share an edge: the last comes before the second, which has a lesser key.
 abbrev sharing : List Tri
 sharing =
-    record { a = at 0 0; b = at 8 0; c = at 8 8 } ∷ record { a = at 0 0; b = at 0 8; c = at 0 4 } ∷ record { a = at 8 0; b = at 16 0; c = at 8 8 } ∷ []
+    record { a = at 0 0; b = at 8 0; c = at 8 8 } ∷ record { a = at 0 0; b = at 0 8; c = at 0 4 } ∷ record
+        { a = at 8 0; b = at 16 0; c = at 8 8 } ∷ []
 
 pub clusters_by_edge : AreClusters sharing ((0 ∷ 2 ∷ 1 ∷ []) ∷ [])
 unfolding is_grown is_next share_edge same_edge same_point edges_of low_of morton_of cell_of interleave batches_of
 clusters_by_edge = record { grown = refl; split = refl }
 
 -- 128 triangles are one cluster
-pub clusters_of_128 : (tris : List Tri) (clusters : List (List ℕ)) → AreClusters tris clusters → clusters ≡ batches_of 128 (concat clusters)
+pub clusters_of_128 : (tris : List Tri) (clusters : List (List ℕ)) → AreClusters tris clusters →
+    clusters ≡ batches_of 128 (concat clusters)
 clusters_of_128 tris clusters c = c.split
 
 -- ---- groups
@@ -142,7 +148,8 @@ clusters_of_128 tris clusters c = c.split
 abbrev shape : ℕ → Edge → ClusterShape
 shape low e = record { low = point low; rim = e ∷ [] }
 
-pub rim_of_shape : rim_edges (record { low = point 0; rim = edge 0 8 ∷ edge 9 3 ∷ [] }) ≡ (point 0, point 8) ∷ (point 9, point 3) ∷ []
+pub rim_of_shape : rim_edges (record { low = point 0; rim = edge 0 8 ∷ edge 9 3 ∷ [] }) ≡ (point 0, point 8) ∷
+    (point 9, point 3) ∷ []
 rim_of_shape = refl
 
 -- Three clusters: the first in rank is the last, and shares an edge with the second, which ranks last.
@@ -163,7 +170,8 @@ unfolding is_grown is_next share_edge same_edge same_point morton_of cell_of int
 groups_not_by_number g = absurd (false≢true g.grown)
 
 -- eight clusters are one group
-pub groups_of_8 : (shapes : List ClusterShape) (groups : List (List ℕ)) → AreGroups shapes groups → groups ≡ batches_of 8 (concat groups)
+pub groups_of_8 : (shapes : List ClusterShape) (groups : List (List ℕ)) → AreGroups shapes groups →
+    groups ≡ batches_of 8 (concat groups)
 groups_of_8 shapes groups g = g.split
 
 -- both ends of each rim edge, and the low corner, are points of a mesh

@@ -1,15 +1,22 @@
 -- Tests of lists: membership, some element, and all numbers of a range.
-use Rattle.std.proofs.Common.{◌≡◌, ◌≢◌, ◌<◌, ◌≤◌, ◌+◌, inl, inr, ℕ, zero, suc, Bool, true, false, ◌||◌, eqb, List, [], ◌∷◌, ◌++◌, Contains, refl, sym, ap, ◌∙◌, arith}
+use Rattle.std.proofs.Common.{
+  ◌≡◌, ◌≢◌, ◌<◌, ◌≤◌, ◌+◌, inl, inr, ℕ, zero, suc, Bool, true, false, ◌||◌, eqb, List, [], ◌∷◌, ◌++◌, Contains, refl,
+  sym, ap, ◌∙◌, arith,
+}
 use Rattle.std.specs.List.{list_any, list_all, range_with_len}
-use Rattle.std.proofs.lemmas.Bool.{eq-eqb, eqb-true, ne_eqb, or_cases, or_left, or_right, and_from, and_parts, cases_eq, false≢true}
+use Rattle.std.proofs.lemmas.Bool.{
+  eq-eqb, eqb-true, ne_eqb, or_cases, or_left, or_right, and_from, and_parts, cases_eq, false≢true,
+}
 use Rattle.std.proofs.lemmas.List.Recursion.{or_push}
 use Rattle.partition.specs.Growing.{is_in}
 
 -- some element passes
-pub list_any-from : {X : Type 0} (p : X → Bool) (xs : List X) (x : X) → Contains xs x → p x ≡ true → list_any p xs ≡ true
+pub list_any-from : {X : Type 0} (p : X → Bool) (xs : List X) (x : X) → Contains xs x → p x ≡ true →
+    list_any p xs ≡ true
 list_any-from p [] x (k, below, is) h = absurd (omega arith)
 list_any-from p (y ∷ ys) x (zero, below, is) h = or_left (p y) (list_any p ys) (ap p is ∙ h)
-list_any-from p (y ∷ ys) x (suc k, below, is) h = or_right (p y) (list_any p ys) (list_any-from p ys x (k, omega arith, is) h)
+list_any-from p (y ∷ ys) x (suc k, below, is) h =
+    or_right (p y) (list_any p ys) (list_any-from p ys x (k, omega arith, is) h)
 
 pub record Passes {X : Type 0} (p : X → Bool) (xs : List X) : Type 0 where
   pub item : X
@@ -28,13 +35,15 @@ list_any-true p (x ∷ xs) h =
     ]
 
 -- all numbers of a range pass
-pub list_all-from : (p : ℕ → Bool) (a n : ℕ) → ((k : ℕ) → a ≤ k → k < a + n → p k ≡ true) → list_all p (range_with_len a n) ≡ true
+pub list_all-from : (p : ℕ → Bool) (a n : ℕ) → ((k : ℕ) → a ≤ k → k < a + n → p k ≡ true) →
+    list_all p (range_with_len a n) ≡ true
 list_all-from p a zero each = refl
 list_all-from p a (suc n) each =
     and_from (p a) (list_all p (range_with_len (a + 1) n)) (each a (omega arith) (omega arith))
     (list_all-from p (a + 1) n (λ k above below. each k (omega arith) (omega arith)))
 
-pub list_all-at : (p : ℕ → Bool) (a n : ℕ) → list_all p (range_with_len a n) ≡ true → (k : ℕ) → a ≤ k → k < a + n → p k ≡ true
+pub list_all-at : (p : ℕ → Bool) (a n : ℕ) → list_all p (range_with_len a n) ≡ true → (k : ℕ) → a ≤ k → k < a + n →
+    p k ≡ true
 list_all-at p a zero all k above below = absurd (omega arith)
 list_all-at p a (suc n) all k above below =
     let parts = and_parts (p a) (list_all p (range_with_len (a + 1) n)) all in

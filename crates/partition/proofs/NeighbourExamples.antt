@@ -59,7 +59,8 @@ pub share_edge-folded : share_edge (edges_of (tri right right origin)) (edges_of
 unfolding share_edge same_edge same_point edges_of
 share_edge-folded = refl
 
-pub share_edge-not_folded : share_edge (edges_of (tri right right origin)) (edges_of (tri right upper (point 16 0))) ≡ false
+pub share_edge-not_folded : share_edge (edges_of (tri right right origin))
+    (edges_of (tri right upper (point 16 0))) ≡ false
 unfolding share_edge same_edge same_point edges_of
 share_edge-not_folded = refl
 
@@ -68,7 +69,8 @@ pub low_corner_of_none : low_corner (tri (point 4 0) (point 0 4) (point 4 4)) �
 unfolding low_of
 low_corner_of_none = refl
 
-pub low_corner_of_hull : (t : Tri) → option_map (λ (box : Cube). box.lo) (hull_of (t.a ∷ t.b ∷ t.c ∷ [])) ≡ Some (low_corner t)
+pub low_corner_of_hull : (t : Tri) → option_map (λ (box : Cube). box.lo) (hull_of (t.a ∷ t.b ∷ t.c ∷ [])) ≡ Some
+    (low_corner t)
 unfolding join_of
 low_corner_of_hull t = refl
 
@@ -81,15 +83,18 @@ triangle_key_of_low = refl
 abbrev three : List Tri
 three = first ∷ tri origin (point 0 8) (point 0 4) ∷ tri right (point 16 0) upper ∷ []
 
-pub three_grow : is_grown 3 (slice_index (map triangle_key three)) (are_neighbours (map edges_of three)) 128 (0 ∷ 2 ∷ 1 ∷ []) ≡ true
+pub three_grow : is_grown 3 (slice_index (map triangle_key three)) (are_neighbours (map edges_of three)) 128
+    (0 ∷ 2 ∷ 1 ∷ []) ≡ true
 unfolding is_grown is_next share_edge same_edge same_point edges_of low_of morton_of cell_of interleave
 three_grow = refl
 
-pub three_not_by_rank : is_grown 3 (slice_index (map triangle_key three)) (are_neighbours (map edges_of three)) 128 (0 ∷ 1 ∷ 2 ∷ []) ≡ false
+pub three_not_by_rank : is_grown 3 (slice_index (map triangle_key three)) (are_neighbours (map edges_of three)) 128
+    (0 ∷ 1 ∷ 2 ∷ []) ≡ false
 unfolding is_grown is_next share_edge same_edge same_point edges_of low_of morton_of cell_of interleave
 three_not_by_rank = refl
 
 -- batches of two: the second begins empty
-pub three_grow_by_two : is_grown 3 (slice_index (map triangle_key three)) (are_neighbours (map edges_of three)) 2 (concat ((0 ∷ 2 ∷ []) ∷ (1 ∷ []) ∷ [])) ≡ true
+pub three_grow_by_two : is_grown 3 (slice_index (map triangle_key three)) (are_neighbours (map edges_of three)) 2
+    (concat ((0 ∷ 2 ∷ []) ∷ (1 ∷ []) ∷ [])) ≡ true
 unfolding is_grown is_next share_edge same_edge same_point edges_of low_of morton_of cell_of interleave
 three_grow_by_two = refl

@@ -1,7 +1,13 @@
 -- The next item: what the frontier gives is what the rule asks for.
-use Rattle.std.proofs.Common.{◌≡◌, ◌≢◌, ◌<◌, ◌≤◌, ◌⊎◌, inl, inr, ℕ, Bool, true, false, not, ◌&&◌, ◌||◌, eqb, ltb, cond, List, [], length, get_or, Contains, refl, sym, ◌∙◌, arith}
+use Rattle.std.proofs.Common.{
+  ◌≡◌, ◌≢◌, ◌<◌, ◌≤◌, ◌⊎◌, inl, inr, ℕ, Bool, true, false, not, ◌&&◌, ◌||◌, eqb, ltb, cond, List, [], length, get_or,
+  Contains, refl, sym, ◌∙◌, arith,
+}
 use Rattle.std.specs.List.{list_all, range_with_len}
-use Rattle.std.proofs.lemmas.Bool.{lt-ltb, ltb-true, eq-eqb, eqb-true, or_cases, or_left, or_right, and_from, and_parts, cases_eq, cases_lt, cases_Bool, both_ways, not-true, not_from_false}
+use Rattle.std.proofs.lemmas.Bool.{
+  lt-ltb, ltb-true, eq-eqb, eqb-true, or_cases, or_left, or_right, and_from, and_parts, cases_eq, cases_lt, cases_Bool,
+  both_ways, not-true, not_from_false,
+}
 use Rattle.std.proofs.lemmas.List.{get_or_default}
 use Rattle.std.proofs.lemmas.List.Elements.{Contains-get_or}
 use Rattle.partition.specs.Internal.Frontiers.{HasLesser, HasLeastOf, IsLeastLeft, IsLeft, NoneLeft}
@@ -10,7 +16,9 @@ use Rattle.partition.specs.Internal.Growths.{Grows, IsNextLeft, IsPlacedBelow, T
 use Rattle.partition.specs.Internal.EdgesOfItem.{EdgeHasItem}
 use Rattle.partition.specs.Internal.SharedEdges.{are_adjacent}
 use Rattle.partition.proofs.Marks.{left_below}
-use Rattle.partition.proofs.Members.{Passes, is_in-from, is_in-true, list_all-from, list_all-at, list_any-from, list_any-true}
+use Rattle.partition.proofs.Members.{
+  Passes, is_in-from, is_in-true, list_all-from, list_all-at, list_any-from, list_any-true,
+}
 
 -- what the test of the next item says
 pub record IsNext (n : ℕ) (key : ℕ → ℕ) (near : ℕ → ℕ → Bool) (placed batch : List ℕ) (i : ℕ) : Type 0 where
@@ -26,9 +34,11 @@ is_next-from n key near placed batch i is =
     and_from (ltb i n && not (is_in placed i)) (list_all test (range_with_len 0 n))
     (and_from (ltb i n) (not (is_in placed i)) (lt-ltb i n is.below) (not_from_false (is_in placed i) is.left))
     (list_all-from test 0 n (λ j above below. elim (cases_Bool (is_in placed j)) [
-      | inl in_placed ↦ or_left (is_in placed j || eqb i j) (goes_before key near batch i j) (or_left (is_in placed j) (eqb i j) in_placed)
+      | inl in_placed ↦ or_left (is_in placed j || eqb i j) (goes_before key near batch i j)
+          (or_left (is_in placed j) (eqb i j) in_placed)
       | inr left ↦ elim (is.first j (omega arith) left) [
-        | inl same ↦ or_left (is_in placed j || eqb i j) (goes_before key near batch i j) (or_right (is_in placed j) (eqb i j) (eq-eqb i j same))
+        | inl same ↦ or_left (is_in placed j || eqb i j) (goes_before key near batch i j)
+            (or_right (is_in placed j) (eqb i j) (eq-eqb i j same))
         | inr before ↦ or_right (is_in placed j || eqb i j) (goes_before key near batch i j) before
       ]
     ]))
@@ -43,7 +53,9 @@ is_next-is n key near placed batch i h =
     record {
       below = ltb-true i n head.0;
       left = not-true (is_in placed i) head.1;
-      first = λ j below left. elim (or_cases (is_in placed j || eqb i j) (goes_before key near batch i j) (list_all-at test 0 n parts.1 j (omega arith) (omega arith))) [
+      first =
+          λ j below left. elim (or_cases (is_in placed j || eqb i j) (goes_before key near batch i j)
+          (list_all-at test 0 n parts.1 j (omega arith) (omega arith))) [
         | inl either ↦ elim (or_cases (is_in placed j) (eqb i j) either) [
           | inl in_placed ↦ absurd (both_ways (is_in placed j) left in_placed)
           | inr same ↦ inl (eqb-true i j same)
@@ -53,16 +65,21 @@ is_next-is n key near placed batch i h =
     }
 
 -- between the test of neighbours and what it means
-pub touches-from : (shared : List (List ℕ)) (batch : List ℕ) (item : ℕ) → Touches shared batch item → touches (are_adjacent shared) batch item ≡ true
+pub touches-from : (shared : List (List ℕ)) (batch : List ℕ) (item : ℕ) → Touches shared batch item →
+    touches (are_adjacent shared) batch item ≡ true
 touches-from shared batch item is =
     let edge : List ℕ = get_or shared is.edge [] in
     list_any-from (λ j. are_adjacent shared j item) batch is.member is.in_batch
-    (list_any-from (λ edge. is_in edge is.member && is_in edge item) shared edge (Contains-get_or shared is.edge [] is.with_member.0)
-    (and_from (is_in edge is.member) (is_in edge item) (is_in-from edge is.member is.with_member.1) (is_in-from edge item is.with_item.1)))
+    (list_any-from (λ edge. is_in edge is.member && is_in edge item) shared edge
+        (Contains-get_or shared is.edge [] is.with_member.0)
+    (and_from (is_in edge is.member) (is_in edge item) (is_in-from edge is.member is.with_member.1)
+        (is_in-from edge item is.with_item.1)))
 
-pub touches-true : (shared : List (List ℕ)) (batch : List ℕ) (item : ℕ) → touches (are_adjacent shared) batch item ≡ true → Touches shared batch item
+pub touches-true : (shared : List (List ℕ)) (batch : List ℕ) (item : ℕ) →
+    touches (are_adjacent shared) batch item ≡ true → Touches shared batch item
 touches-true shared batch item h =
-    let member : Passes (λ j. are_adjacent shared j item) batch = list_any-true (λ j. are_adjacent shared j item) batch h in
+    let member : Passes (λ j. are_adjacent shared j item) batch =
+        list_any-true (λ j. are_adjacent shared j item) batch h in
     let holds : ℕ → List ℕ → Bool = λ j edge. is_in edge j && is_in edge item in
     let edge : Passes (holds member.item) shared = list_any-true (holds member.item) shared member.passes in
     let both = and_parts (is_in edge.item member.item) (is_in edge.item item) edge.passes in
@@ -77,7 +94,8 @@ touches-true shared batch item h =
     }
 
 -- which of two items goes before the other, by cases
-goes_first : (near_i near_j less : Bool) → (near_j ≡ true → (near_i ≡ true) × (less ≡ true)) → (near_j ≡ false → (near_i ≡ true) ⊎ (less ≡ true)) →
+goes_first : (near_i near_j less : Bool) → (near_j ≡ true → (near_i ≡ true) × (less ≡ true)) →
+    (near_j ≡ false → (near_i ≡ true) ⊎ (less ≡ true)) →
     cond near_j (near_i && less) (near_i || less) ≡ true
 goes_first near_i true less both either = and_from near_i less (both refl).0 (both refl).1
 goes_first near_i false less both either =
@@ -85,19 +103,23 @@ goes_first near_i false less both either =
 
 -- an item that isn't placed and touches the batch has a lesser one in the queue
 lesser_of : (shared : List (List ℕ)) (batch : List ℕ) (placed : List Bool) (queue : List ℕ) (j : ℕ) →
-    ((edge member : ℕ) → Contains batch member → EdgeHasItem shared edge member → HasLeastOf (get_or shared edge []) placed queue) →
+    ((edge member : ℕ) → Contains batch member → EdgeHasItem shared edge member →
+    HasLeastOf (get_or shared edge []) placed queue) →
     IsLeft placed j → touches (are_adjacent shared) batch j ≡ true →
     (lesser : ℕ) × Contains queue lesser × (lesser ≤ j) × IsLeft placed lesser
 lesser_of shared batch placed queue j ready left h =
     let is : Touches shared batch j = touches-true shared batch j h in
-    let has : HasLesser (get_or shared is.edge []) placed queue j = ready is.edge is.member is.in_batch is.with_member j is.with_item.1 left in
+    let has : HasLesser (get_or shared is.edge []) placed queue j =
+        ready is.edge is.member is.in_batch is.with_member j is.with_item.1 left in
     (has.lesser, has.queued, has.le, has.left)
 
 -- the least of the queue goes first
 queued_first : (shared : List (List ℕ)) (batch : List ℕ) (placed : List Bool) (queue : List ℕ) (item j : ℕ) →
-    ((edge member : ℕ) → Contains batch member → EdgeHasItem shared edge member → HasLeastOf (get_or shared edge []) placed queue) →
+    ((edge member : ℕ) → Contains batch member → EdgeHasItem shared edge member →
+    HasLeastOf (get_or shared edge []) placed queue) →
     ((item : ℕ) → Contains queue item → Touches shared batch item) →
-    IsLeastLeft queue placed item → IsLeft placed j → (item ≢ j) → goes_before (λ _. 0) (are_adjacent shared) batch item j ≡ true
+    IsLeastLeft queue placed item → IsLeft placed j → (item ≢ j) →
+    goes_before (λ _. 0) (are_adjacent shared) batch item j ≡ true
 queued_first shared batch placed queue item j ready queued first left other =
     let touching = touches-from shared batch item (queued item first.among) in
     goes_first (touches (are_adjacent shared) batch item) (touches (are_adjacent shared) batch j) (ltb item j)
@@ -109,8 +131,10 @@ queued_first shared batch placed queue item j ready queued first left other =
 
 -- where the queue has none left, the least of all goes first
 others_first : (shared : List (List ℕ)) (batch : List ℕ) (placed : List Bool) (queue : List ℕ) (item j : ℕ) →
-    ((edge member : ℕ) → Contains batch member → EdgeHasItem shared edge member → HasLeastOf (get_or shared edge []) placed queue) →
-    NoneLeft queue placed → IsPlacedBelow placed item → IsLeft placed j → (item ≢ j) → goes_before (λ _. 0) (are_adjacent shared) batch item j ≡ true
+    ((edge member : ℕ) → Contains batch member → EdgeHasItem shared edge member →
+    HasLeastOf (get_or shared edge []) placed queue) →
+    NoneLeft queue placed → IsPlacedBelow placed item → IsLeft placed j → (item ≢ j) →
+    goes_before (λ _. 0) (are_adjacent shared) batch item j ≡ true
 others_first shared batch placed queue item j ready none least left other =
     goes_first (touches (are_adjacent shared) batch item) (touches (are_adjacent shared) batch j) (ltb item j)
     (λ h.
@@ -122,10 +146,13 @@ others_first shared batch placed queue item j ready none least left other =
     ]))
 
 -- The next item is what the frontier gives, if each shared edge that touches the batch has its least item queued.
-pub next_is : (shared : List (List ℕ)) (size : ℕ) (placed : List Bool) (order : List ℕ) (least : ℕ) (cursors queue : List ℕ) (item : ℕ) →
+pub next_is : (shared : List (List ℕ)) (size : ℕ) (placed : List Bool) (order : List ℕ) (least : ℕ)
+    (cursors queue : List ℕ) (item : ℕ) →
     Grows shared size placed order least cursors queue →
-    ((edge member : ℕ) → Contains (batch_of size order) member → EdgeHasItem shared edge member → HasLeastOf (get_or shared edge []) placed queue) →
-    IsNextLeft placed queue item → is_next (length placed) (λ _. 0) (are_adjacent shared) order (batch_of size order) item ≡ true
+    ((edge member : ℕ) → Contains (batch_of size order) member → EdgeHasItem shared edge member →
+    HasLeastOf (get_or shared edge []) placed queue) →
+    IsNextLeft placed queue item → is_next (length placed) (λ _. 0) (are_adjacent shared) order
+    (batch_of size order) item ≡ true
 next_is shared size placed order least cursors queue item grows ready next =
     is_next-from (length placed) (λ _. 0) (are_adjacent shared) order (batch_of size order) item (elim next [
       | inl first ↦
@@ -135,7 +162,8 @@ next_is shared size placed order least cursors queue item grows ready next =
             left = sym (grows.marks item below) ∙ first.left;
             first = λ j h left. elim (cases_eq item j) [
               | inl same ↦ inl same
-              | inr other ↦ inr (queued_first shared (batch_of size order) placed queue item j ready grows.queued first (grows.marks j h ∙ left) other)
+              | inr other ↦ inr (queued_first shared (batch_of size order) placed queue item j ready grows.queued first
+                  (grows.marks j h ∙ left) other)
             ];
           }
       | inr rest ↦
@@ -145,7 +173,8 @@ next_is shared size placed order least cursors queue item grows ready next =
             left = sym (grows.marks item below) ∙ rest.1;
             first = λ j h left. elim (cases_eq item j) [
               | inl same ↦ inl same
-              | inr other ↦ inr (others_first shared (batch_of size order) placed queue item j ready rest.0 rest.2 (grows.marks j h ∙ left) other)
+              | inr other ↦ inr (others_first shared (batch_of size order) placed queue item j ready rest.0 rest.2
+                  (grows.marks j h ∙ left) other)
             ];
           }
     ])

@@ -1,10 +1,16 @@
 -- A list that has each number below n once is these numbers in another order, and so is what each number names.
-use Rattle.std.proofs.Common.{◌≡◌, ◌<◌, ◌+◌, inl, inr, ℕ, zero, suc, Bool, eqb, cond, List, [], ◌∷◌, ◌++◌, length, get_or, map, count_by, IsPermutation, refl, sym, ap, ◌∙◌, subst, arith, append-nil, append_assoc, true}
+use Rattle.std.proofs.Common.{
+  ◌≡◌, ◌<◌, ◌+◌, inl, inr, ℕ, zero, suc, Bool, eqb, cond, List, [], ◌∷◌, ◌++◌, length, get_or, map, count_by,
+  IsPermutation, refl, sym, ap, ◌∙◌, subst, arith, append-nil, append_assoc, true,
+}
 use Rattle.std.specs.List.{concat, flat_map, range_with_len, slice_index_or}
 use Rattle.std.proofs.lemmas.Bool.{cases_eq, ne_eqb}
 use Rattle.std.proofs.lemmas.List.{map-id}
 use Rattle.std.proofs.lemmas.List.Concat.{flat_map-append, flat_map_single}
-use Rattle.std.proofs.lemmas.List.Sorted.{IsPermutation-append_comm, IsPermutation-append_left, IsPermutation-append_right, IsPermutation-middle, IsPermutation-refl, IsPermutation-sym, IsPermutation-trans, length_permutation, sum_by-IsPermutation}
+use Rattle.std.proofs.lemmas.List.Sorted.{
+  IsPermutation-append_comm, IsPermutation-append_left, IsPermutation-append_right, IsPermutation-middle,
+  IsPermutation-refl, IsPermutation-sym, IsPermutation-trans, length_permutation, sum_by-IsPermutation,
+}
 use Rattle.std.proofs.lemmas.List.Sums.{sum_by-cons}
 use Rattle.partition.specs.Batches.{pick}
 use Rattle.partition.specs.Growing.{is_grown}
@@ -28,7 +34,8 @@ parts_at (y ∷ ys) x h =
       | inr other ↦
           let weight : ℕ → ℕ = λ z. cond (eqb z x) 1 0 in
           let here : weight y ≡ 0 = ap (λ b. cond b 1 0) (ne_eqb y x other) in
-          let all : count_by (λ z. eqb z x) (y ∷ ys) ≡ weight y + count_by (λ z. eqb z x) ys = sum_by-cons weight y ys in
+          let all : count_by (λ z. eqb z x) (y ∷ ys) ≡ weight y + count_by (λ z. eqb z x) ys =
+              sum_by-cons weight y ys in
           let rest : Parts ys x = parts_at ys x (omega (arith, all, here)) in
           record { front = y ∷ rest.front; back = rest.back; is = ap (λ zs. y ∷ zs) rest.is }
     ]
@@ -42,8 +49,10 @@ once_without : (m : ℕ) (xs rest : List ℕ) → IsPermutation xs (m ∷ rest) 
 once_without m xs rest moved once item h =
     let weight : ℕ → ℕ = λ y. cond (eqb y item) 1 0 in
     let here : weight m ≡ 0 = ap (λ b. cond b 1 0) (ne_eqb m item (λ e. absurd (omega (arith, e)))) in
-    let all : count_by (λ y. eqb y item) (m ∷ rest) ≡ weight m + count_by (λ y. eqb y item) rest = sum_by-cons weight m rest in
-    let same : count_by (λ y. eqb y item) (m ∷ rest) ≡ count_by (λ y. eqb y item) xs = sum_by-IsPermutation weight xs (m ∷ rest) moved in
+    let all : count_by (λ y. eqb y item) (m ∷ rest) ≡ weight m + count_by (λ y. eqb y item) rest =
+        sum_by-cons weight m rest in
+    let same : count_by (λ y. eqb y item) (m ∷ rest) ≡ count_by (λ y. eqb y item) xs =
+        sum_by-IsPermutation weight xs (m ∷ rest) moved in
     omega (arith, here, all, same, once item (omega arith))
 
 -- ---- what the numbers of a list name, joined
@@ -54,7 +63,8 @@ middle_last a b c =
     subst (IsPermutation (a ++ (b ++ c))) (sym (append_assoc a c b))
     (IsPermutation-append_right a (b ++ c) (c ++ b) (IsPermutation-append_comm b c))
 
-last_number : {X : Type 0} (f : ℕ → List X) (m : ℕ) → flat_map f (range_with_len 0 (suc m)) ≡ flat_map f (range_with_len 0 m) ++ f m
+last_number : {X : Type 0} (f : ℕ → List X) (m : ℕ) →
+    flat_map f (range_with_len 0 (suc m)) ≡ flat_map f (range_with_len 0 m) ++ f m
 last_number f m =
     let next : suc m ≡ m + 1 = omega arith in
     ap (λ n. flat_map f (range_with_len 0 n)) next
@@ -69,18 +79,24 @@ named_permuted f zero (x ∷ xs) len once = absurd (omega (arith, len))
 named_permuted {X} f (suc m) xs len once =
     let p : Parts xs m = parts_at xs m (omega (arith, once m (omega arith))) in
     let rest : List ℕ = p.front ++ p.back in
-    let moved : IsPermutation xs (m ∷ rest) = subst (λ zs. IsPermutation zs (m ∷ rest)) (sym p.is) (IsPermutation-middle p.front m p.back) in
+    let moved : IsPermutation xs (m ∷ rest) =
+        subst (λ zs. IsPermutation zs (m ∷ rest)) (sym p.is) (IsPermutation-middle p.front m p.back) in
     let shorter : length rest ≡ m = omega (arith, len, length_permutation xs (m ∷ rest) moved) in
-    let below : IsPermutation (flat_map f rest) (flat_map f (range_with_len 0 m)) = named_permuted f m rest shorter (once_without m xs rest moved once) in
-    let split : flat_map f xs ≡ flat_map f p.front ++ (f m ++ flat_map f p.back) = ap (flat_map f) p.is ∙ flat_map-append f p.front (m ∷ p.back) in
+    let below : IsPermutation (flat_map f rest) (flat_map f (range_with_len 0 m)) =
+        named_permuted f m rest shorter (once_without m xs rest moved once) in
+    let split : flat_map f xs ≡ flat_map f p.front ++ (f m ++ flat_map f p.back) =
+        ap (flat_map f) p.is ∙ flat_map-append f p.front (m ∷ p.back) in
     let last : IsPermutation (flat_map f xs) ((flat_map f p.front ++ flat_map f p.back) ++ f m) =
-    subst (λ zs. IsPermutation zs ((flat_map f p.front ++ flat_map f p.back) ++ f m)) (sym split) (middle_last (flat_map f p.front) (f m) (flat_map f p.back)) in
-    let joined : (flat_map f p.front ++ flat_map f p.back) ++ f m ≡ flat_map f rest ++ f m = ap (λ ys. ys ++ f m) (sym (flat_map-append f p.front p.back)) in
+    subst (λ zs. IsPermutation zs ((flat_map f p.front ++ flat_map f p.back) ++ f m)) (sym split)
+        (middle_last (flat_map f p.front) (f m) (flat_map f p.back)) in
+    let joined : (flat_map f p.front ++ flat_map f p.back) ++ f m ≡ flat_map f rest ++ f m =
+        ap (λ ys. ys ++ f m) (sym (flat_map-append f p.front p.back)) in
     let P : List X → Type 0 = λ ys. IsPermutation (flat_map f xs) ys in
     let Q : List X → Type 0 = λ ys. IsPermutation (flat_map f rest ++ f m) ys in
     IsPermutation-trans (flat_map f xs) (flat_map f rest ++ f m) (flat_map f (range_with_len 0 (suc m)))
     (subst P joined last)
-    (subst Q (sym (last_number f m)) (IsPermutation-append_left (f m) (flat_map f rest) (flat_map f (range_with_len 0 m)) below))
+    (subst Q (sym (last_number f m)) (IsPermutation-append_left (f m) (flat_map f rest)
+        (flat_map f (range_with_len 0 m)) below))
 
 -- ---- a grown order
 
@@ -100,24 +116,30 @@ pub grown_permutation : (n size : ℕ) (key : ℕ → ℕ) (near : ℕ → ℕ �
 grown_permutation n size key near order h =
     let P : List ℕ → Type 0 = λ xs. IsPermutation xs order in
     let Q : List ℕ → Type 0 = λ xs. IsPermutation (flat_map (λ x. x ∷ []) (range_with_len 0 n)) xs in
-    subst P (single_is (range_with_len 0 n)) (subst Q (single_is order) (named_in_order (λ x. x ∷ []) n size key near order h))
+    subst P (single_is (range_with_len 0 n))
+        (subst Q (single_is order) (named_in_order (λ x. x ∷ []) n size key near order h))
 
 -- ---- batches joined
 
-pub named_by_batch : {X : Type 0} (f : ℕ → List X) (batches : List (List ℕ)) → flat_map f (concat batches) ≡ flat_map (λ batch. flat_map f batch) batches
+pub named_by_batch : {X : Type 0} (f : ℕ → List X) (batches : List (List ℕ)) →
+    flat_map f (concat batches) ≡ flat_map (λ batch. flat_map f batch) batches
 named_by_batch f [] = refl
 named_by_batch f (b ∷ bs) = flat_map-append f b (concat bs) ∙ ap (λ ys. flat_map f b ++ ys) (named_by_batch f bs)
 
-flat_map_of_map : {X Y : Type 0} (f : Y → List X) (g : ℕ → Y) (xs : List ℕ) → flat_map (λ x. f (g x)) xs ≡ flat_map f (map g xs)
+flat_map_of_map : {X Y : Type 0} (f : Y → List X) (g : ℕ → Y) (xs : List ℕ) →
+    flat_map (λ x. f (g x)) xs ≡ flat_map f (map g xs)
 flat_map_of_map f g [] = refl
 flat_map_of_map f g (x ∷ xs) = ap (λ ys. f (g x) ++ ys) (flat_map_of_map f g xs)
 
-flat_map_same : {X Y : Type 0} (f g : Y → List X) → ((y : Y) → f y ≡ g y) → (ys : List Y) → flat_map f ys ≡ flat_map g ys
+flat_map_same : {X Y : Type 0} (f g : Y → List X) → ((y : Y) → f y ≡ g y) → (ys : List Y) →
+    flat_map f ys ≡ flat_map g ys
 flat_map_same f g same [] = refl
-flat_map_same f g same (y ∷ ys) = ap (λ zs. f y ++ zs) (flat_map_same f g same ys) ∙ ap (λ zs. zs ++ flat_map g ys) (same y)
+flat_map_same f g same (y ∷ ys) =
+    ap (λ zs. f y ++ zs) (flat_map_same f g same ys) ∙ ap (λ zs. zs ++ flat_map g ys) (same y)
 
 -- a list is what its positions name
-positions_from : {X : Type 0} (items : List X) (other : X) (all : List X) (a : ℕ) → ((k : ℕ) → k < length items → get_or all (a + k) other ≡ get_or items k other) →
+positions_from : {X : Type 0} (items : List X) (other : X) (all : List X) (a : ℕ) →
+    ((k : ℕ) → k < length items → get_or all (a + k) other ≡ get_or items k other) →
     map (λ k. get_or all k other) (range_with_len a (length items)) ≡ items
 positions_from [] other all a at = refl
 positions_from (x ∷ items) other all a at =
@@ -128,30 +150,37 @@ positions_from (x ∷ items) other all a at =
     let next : a + 1 + k ≡ a + suc k = omega arith in
     ap (λ j. get_or all j other) next ∙ at (suc k) (omega arith)))
 
-positions : {X : Type 0} (items : List X) (other : X) → map (λ k. get_or items k other) (range_with_len 0 (length items)) ≡ items
+positions : {X : Type 0} (items : List X) (other : X) →
+    map (λ k. get_or items k other) (range_with_len 0 (length items)) ≡ items
 positions items other = positions_from items other items 0 (λ k h. ap (λ j. get_or items j other) (zero_plus k))
   where
     zero_plus : (k : ℕ) → 0 + k ≡ k
     zero_plus k = omega arith
 
 -- the lists that the batches pick, joined, are all of them joined
-pub lists_permuted : {X : Type 0} (lists : List (List X)) (n : ℕ) → length lists ≡ n → (size : ℕ) (key : ℕ → ℕ) (near : ℕ → ℕ → Bool) (batches : List (List ℕ)) →
+pub lists_permuted : {X : Type 0} (lists : List (List X)) (n : ℕ) → length lists ≡ n →
+    (size : ℕ) (key : ℕ → ℕ) (near : ℕ → ℕ → Bool) (batches : List (List ℕ)) →
     is_grown n key near size (concat batches) ≡ true →
-    IsPermutation (flat_map (λ list. list) lists) (flat_map (λ batch. flat_map (λ list. list) (pick lists [] batch)) batches)
+    IsPermutation (flat_map (λ list. list) lists)
+    (flat_map (λ batch. flat_map (λ list. list) (pick lists [] batch)) batches)
 lists_permuted {X} lists n len size key near batches h =
     let f : ℕ → List X = λ k. slice_index_or lists k [] in
     let all : flat_map f (range_with_len 0 n) ≡ flat_map (λ list. list) lists =
     flat_map_of_map (λ (list : List X). list) f (range_with_len 0 n)
-    ∙ (ap (λ m. flat_map (λ list. list) (map f (range_with_len 0 m))) (sym len) ∙ ap (flat_map (λ list. list)) (positions lists [])) in
+    ∙ (ap (λ m. flat_map (λ list. list) (map f (range_with_len 0 m))) (sym len) ∙
+        ap (flat_map (λ list. list)) (positions lists [])) in
     let each : flat_map f (concat batches) ≡ flat_map (λ batch. flat_map (λ list. list) (pick lists [] batch)) batches =
     named_by_batch f batches
-    ∙ flat_map_same (λ batch. flat_map f batch) (λ batch. flat_map (λ list. list) (pick lists [] batch)) (λ batch. flat_map_of_map (λ (list : List X). list) f batch) batches in
-    let P : List X → Type 0 = λ xs. IsPermutation xs (flat_map (λ batch. flat_map (λ list. list) (pick lists [] batch)) batches) in
+    ∙ flat_map_same (λ batch. flat_map f batch) (λ batch. flat_map (λ list. list) (pick lists [] batch))
+        (λ batch. flat_map_of_map (λ (list : List X). list) f batch) batches in
+    let P : List X → Type 0 =
+        λ xs. IsPermutation xs (flat_map (λ batch. flat_map (λ list. list) (pick lists [] batch)) batches) in
     let Q : List X → Type 0 = λ ys. IsPermutation (flat_map f (range_with_len 0 n)) ys in
     subst P all (subst Q each (named_in_order f n size key near (concat batches) h))
 
 -- the items that the batches pick are all of them
-pub items_permuted : {X : Type 0} (items : List X) (other : X) (n : ℕ) → length items ≡ n → (size : ℕ) (key : ℕ → ℕ) (near : ℕ → ℕ → Bool) (batches : List (List ℕ)) →
+pub items_permuted : {X : Type 0} (items : List X) (other : X) (n : ℕ) → length items ≡ n →
+    (size : ℕ) (key : ℕ → ℕ) (near : ℕ → ℕ → Bool) (batches : List (List ℕ)) →
     is_grown n key near size (concat batches) ≡ true → IsPermutation items (flat_map (pick items other) batches)
 items_permuted {X} items other n len size key near batches h =
     let g : ℕ → X = λ k. slice_index_or items k other in
@@ -159,7 +188,8 @@ items_permuted {X} items other n len size key near batches h =
     let all : flat_map f (range_with_len 0 n) ≡ items =
     flat_map_single g (range_with_len 0 n) ∙ (ap (λ m. map g (range_with_len 0 m)) (sym len) ∙ positions items other) in
     let each : flat_map f (concat batches) ≡ flat_map (pick items other) batches =
-    named_by_batch f batches ∙ flat_map_same (λ batch. flat_map f batch) (pick items other) (λ batch. flat_map_single g batch) batches in
+    named_by_batch f batches ∙ flat_map_same (λ batch. flat_map f batch) (pick items other)
+        (λ batch. flat_map_single g batch) batches in
     let P : List X → Type 0 = λ xs. IsPermutation xs (flat_map (pick items other) batches) in
     let Q : List X → Type 0 = λ ys. IsPermutation (flat_map f (range_with_len 0 n)) ys in
     subst P all (subst Q each (named_in_order f n size key near (concat batches) h))

@@ -1,7 +1,12 @@
 -- One more item is placed: what of the growth stays, and what of the frontier.
-use Rattle.std.proofs.Common.{◌≡◌, ◌≢◌, ◌<◌, ◌+◌, ◌*◌, ◌/◌, ◌%◌, inl, inr, ℕ, Bool, true, List, [], ◌∷◌, ◌++◌, length, get_or, set, drop, Contains, refl, sym, ap, ◌∙◌, arith}
+use Rattle.std.proofs.Common.{
+  ◌≡◌, ◌≢◌, ◌<◌, ◌+◌, ◌*◌, ◌/◌, ◌%◌, inl, inr, ℕ, Bool, true, List, [], ◌∷◌, ◌++◌, length, get_or, set, drop, Contains,
+  refl, sym, ap, ◌∙◌, arith,
+}
 use Rattle.std.proofs.lemmas.Bool.{cases_Bool, cases_eq, cases_lt, both_ways}
-use Rattle.std.proofs.lemmas.List.{get_or_append_left, get_or_push, length-set, length_push, take_all, take_at, take-append-le, drop-append-le, drop_all}
+use Rattle.std.proofs.lemmas.List.{
+  get_or_append_left, get_or_push, length-set, length_push, take_all, take_at, take-append-le, drop-append-le, drop_all,
+}
 use Rattle.std.proofs.lemmas.List.Elements.{Contains-append_left, Contains-push, Contains-push_cases}
 use Rattle.std.proofs.lemmas.Nat.{div-add-mod', div-mul-add, mod-mul-add}
 use Rattle.partition.specs.Internal.Frontiers.{AddsNeighbours, AreCursors, HasLeastOfEach, HasLesser, HasLeastOf, Keeps}
@@ -37,8 +42,11 @@ batch_of-more : (size : ℕ) (order : List ℕ) (item : ℕ) → 0 < size → ((
 batch_of-more size order item some within =
     let first : ℕ = length order / size * size in
     let whole : first + length order % size ≡ length order = div-add-mod' (length order) size in
-    let starts : length (order ++ item ∷ []) / size * size ≡ first = ap (λ n. n / size * size) (length_push order item) ∙ ap (λ q. q * size) (div-next (length order) size some within) in
-    batch_of-is size (order ++ item ∷ []) ∙ ap (λ n. drop n (order ++ item ∷ [])) starts ∙ drop-append-le first order (item ∷ []) (omega arith)
+    let starts : length (order ++ item ∷ []) / size * size ≡ first =
+        ap (λ n. n / size * size) (length_push order item) ∙
+        ap (λ q. q * size) (div-next (length order) size some within) in
+    batch_of-is size (order ++ item ∷ []) ∙ ap (λ n. drop n (order ++ item ∷ [])) starts ∙
+        drop-append-le first order (item ∷ []) (omega arith)
     ∙ ap (λ batch. batch ++ item ∷ []) (sym (batch_of-is size order))
 
 -- after a full batch the next one is empty
@@ -48,36 +56,43 @@ batch_of-full size order full =
     batch_of-is size order ∙ drop_all (length order / size * size) order (omega arith)
 
 -- what was chosen stays so
-pub is_chosen-before : (n : ℕ) (key : ℕ → ℕ) (near : ℕ → ℕ → Bool) (size : ℕ) (order : List ℕ) (item place : ℕ) → place < length order →
+pub is_chosen-before : (n : ℕ) (key : ℕ → ℕ) (near : ℕ → ℕ → Bool) (size : ℕ) (order : List ℕ) (item place : ℕ) →
+    place < length order →
     is_chosen n key near size order place ≡ true → is_chosen n key near size (order ++ item ∷ []) place ≡ true
 is_chosen-before n key near size order item place h chosen =
     rw (take-append-le place order (item ∷ []) (omega arith), get_or_append_left order (item ∷ []) 0 place h) chosen
 
 -- the next item is chosen
 pub is_chosen-here : (n : ℕ) (key : ℕ → ℕ) (near : ℕ → ℕ → Bool) (size : ℕ) (order : List ℕ) (item : ℕ) →
-    is_next n key near order (batch_of size order) item ≡ true → is_chosen n key near size (order ++ item ∷ []) (length order) ≡ true
+    is_next n key near order (batch_of size order) item ≡ true →
+    is_chosen n key near size (order ++ item ∷ []) (length order) ≡ true
 is_chosen-here n key near size order item next =
     let before = rw (batch_of-is size order) at next in
     rw (take_at order (item ∷ []) (length order) refl, get_or_push order item 0 (length order) refl) before
 
 -- one more item
-pub Grows-more : (shared : List (List ℕ)) (size : ℕ) (placed : List Bool) (order : List ℕ) (least : ℕ) (cursors queue : List ℕ) (item : ℕ)
+pub Grows-more : (shared : List (List ℕ)) (size : ℕ) (placed : List Bool) (order : List ℕ) (least : ℕ)
+    (cursors queue : List ℕ) (item : ℕ)
     (cursors' queue' : List ℕ) → Grows shared size placed order least cursors queue →
     is_next (length placed) (λ _. 0) (are_adjacent shared) order (batch_of size order) item ≡ true →
     AreCursors shared (set placed item true) cursors' →
     ((k : ℕ) → Contains queue' k → Touches shared (batch_of size (order ++ item ∷ [])) k) →
     Grows shared size (set placed item true) (order ++ item ∷ []) least cursors' queue'
 Grows-more shared size placed order least cursors queue item cursors' queue' grows next passed queued =
-    let is : IsNext (length placed) (λ _. 0) (are_adjacent shared) order (batch_of size order) item = is_next-is (length placed) (λ _. 0) (are_adjacent shared) order (batch_of size order) item next in
+    let is : IsNext (length placed) (λ _. 0) (are_adjacent shared) order (batch_of size order) item =
+        is_next-is (length placed) (λ _. 0) (are_adjacent shared) order (batch_of size order) item next in
     let same : length (set placed item true) ≡ length placed = length-set placed item true in
     record {
       marks = marks-more placed order item is.below grows.marks;
-      counted = count-more placed item (grows.marks item is.below ∙ is.left) ∙ ap (λ n. n + 1) grows.counted ∙ sym (length_push order item);
+      counted =
+          count-more placed item (grows.marks item is.below ∙ is.left) ∙ ap (λ n. n + 1) grows.counted ∙
+          sym (length_push order item);
       below = λ k h. placed-keeps placed item k (grows.below k h);
       passed = passed;
       queued = queued;
       grown = λ place h. rw same (elim (cases_lt place (length order)) [
-        | inl before ↦ is_chosen-before (length placed) (λ _. 0) (are_adjacent shared) size order item place before (grows.grown place before)
+        | inl before ↦ is_chosen-before (length placed) (λ _. 0) (are_adjacent shared) size order item place before
+            (grows.grown place before)
         | inr past ↦
             let here : place ≡ length order = omega (arith, length_push order item) in
             rw here (is_chosen-here (length placed) (λ _. 0) (are_adjacent shared) size order item next)
@@ -85,7 +100,8 @@ Grows-more shared size placed order least cursors queue item cursors' queue' gro
     }
 
 -- what touches a batch touches one with more items
-Touches-more : (shared : List (List ℕ)) (batch : List ℕ) (item k : ℕ) → Touches shared batch k → Touches shared (batch ++ item ∷ []) k
+Touches-more : (shared : List (List ℕ)) (batch : List ℕ) (item k : ℕ) → Touches shared batch k →
+    Touches shared (batch ++ item ∷ []) k
 Touches-more shared batch item k is = record {
   edge = is.edge;
   member = is.member;
@@ -95,7 +111,8 @@ Touches-more shared batch item k is = record {
 }
 
 -- what is queued touches the batch with the item
-queued-more : (shared : List (List ℕ)) (size : ℕ) (order : List ℕ) (item : ℕ) (old new : List ℕ) → 0 < size → ((length order + 1) % size ≡ 0 → ⊥) →
+queued-more : (shared : List (List ℕ)) (size : ℕ) (order : List ℕ) (item : ℕ) (old new : List ℕ) → 0 < size →
+    ((length order + 1) % size ≡ 0 → ⊥) →
     ((k : ℕ) → Contains old k → Touches shared (batch_of size order) k) → AddsNeighbours shared item old new →
     (k : ℕ) → Contains new k → Touches shared (batch_of size (order ++ item ∷ [])) k
 queued-more shared size order item old new some within queued adds k is =
@@ -111,7 +128,8 @@ queued-more shared size order item old new some within queued adds k is =
     ])
 
 -- a shared edge that doesn't have the item keeps its least item queued
-HasLeastOf-more : (edge : List ℕ) (placed : List Bool) (item : ℕ) (old new : List ℕ) → (Contains edge item → ⊥) → Keeps old new →
+HasLeastOf-more : (edge : List ℕ) (placed : List Bool) (item : ℕ) (old new : List ℕ) → (Contains edge item → ⊥) →
+    Keeps old new →
     HasLeastOf edge placed old → HasLeastOf edge (set placed item true) new
 HasLeastOf-more edge placed item old new apart keeps entered other among left =
     let has : HasLesser edge placed old other = entered other among (left_before placed item other left) in
@@ -125,9 +143,11 @@ HasLeastOf-more edge placed item old new apart keeps entered other among left =
     }
 
 -- each shared edge that touches the batch has its least item queued, once those that have the item do
-ready-more : (shared : List (List ℕ)) (size : ℕ) (placed : List Bool) (order : List ℕ) (item : ℕ) (old new : List ℕ) → 0 < size →
+ready-more : (shared : List (List ℕ)) (size : ℕ) (placed : List Bool) (order : List ℕ) (item : ℕ) (old new : List ℕ) →
+    0 < size →
     ((length order + 1) % size ≡ 0 → ⊥) →
-    ((edge member : ℕ) → Contains (batch_of size order) member → EdgeHasItem shared edge member → (Contains (get_or shared edge []) item → ⊥) →
+    ((edge member : ℕ) → Contains (batch_of size order) member → EdgeHasItem shared edge member →
+    (Contains (get_or shared edge []) item → ⊥) →
     HasLeastOf (get_or shared edge []) placed old) →
     Keeps old new → HasLeastOfEach shared (set placed item true) new item →
     (edge member : ℕ) → Contains (batch_of size (order ++ item ∷ [])) member → EdgeHasItem shared edge member →
@@ -136,9 +156,12 @@ ready-more shared size placed order item old new some within ready keeps entered
     elim (cases_Bool (is_in (get_or shared edge []) item)) [
       | inl held ↦ entered edge (holds.0, is_in-true (get_or shared edge []) item held)
       | inr apart ↦
-          let far : Contains (get_or shared edge []) item → ⊥ = λ is. both_ways (is_in (get_or shared edge []) item) apart (is_in-from (get_or shared edge []) item is) in
-          elim (Contains-push_cases (batch_of size order) item member (rw (batch_of-more size order item some within) at in_batch)) [
-            | inl before ↦ HasLeastOf-more (get_or shared edge []) placed item old new far keeps (ready edge member before holds far)
+          let far : Contains (get_or shared edge []) item → ⊥ =
+              λ is. both_ways (is_in (get_or shared edge []) item) apart (is_in-from (get_or shared edge []) item is) in
+          elim (Contains-push_cases (batch_of size order) item member
+              (rw (batch_of-more size order item some within) at in_batch)) [
+            | inl before ↦ HasLeastOf-more (get_or shared edge []) placed item old new far keeps
+                (ready edge member before holds far)
             | inr same ↦ absurd (far (rw (sym same) at holds.1))
           ]
     ]
@@ -159,9 +182,11 @@ queued-after shared size order item old mid new some full room queued adds k is 
     ]
 
 -- each shared edge that touches the batch has its least item queued then
-pub ready-after : (shared : List (List ℕ)) (size : ℕ) (placed : List Bool) (order : List ℕ) (item : ℕ) (old mid new : List ℕ) → 0 < size →
+pub ready-after : (shared : List (List ℕ)) (size : ℕ) (placed : List Bool) (order : List ℕ) (item : ℕ)
+    (old mid new : List ℕ) → 0 < size →
     (length (order ++ item ∷ []) % size ≡ 0 → new ≡ []) → (length (order ++ item ∷ []) % size ≢ 0 → new ≡ mid) →
-    ((edge member : ℕ) → Contains (batch_of size order) member → EdgeHasItem shared edge member → (Contains (get_or shared edge []) item → ⊥) →
+    ((edge member : ℕ) → Contains (batch_of size order) member → EdgeHasItem shared edge member →
+    (Contains (get_or shared edge []) item → ⊥) →
     HasLeastOf (get_or shared edge []) placed old) →
     Keeps old mid → HasLeastOfEach shared (set placed item true) mid item →
     (edge member : ℕ) → Contains (batch_of size (order ++ item ∷ [])) member → EdgeHasItem shared edge member →
@@ -173,5 +198,6 @@ ready-after shared size placed order item old mid new some full room ready keeps
           absurd (omega (arith, none.1))
       | inr goes_on ↦
           let within = rw (length_push order item) at goes_on in
-          rw (room goes_on) (ready-more shared size placed order item old mid some within ready keeps entered edge member in_batch holds)
+          rw (room goes_on) (ready-more shared size placed order item old mid some within ready keeps entered edge
+              member in_batch holds)
     ]

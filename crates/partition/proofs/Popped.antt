@@ -20,7 +20,8 @@ pushed x old new is = Contains-permutation (x ∷ old) new x is (Contains-head x
 pub kept_by_push : (x : ℕ) (old new : List ℕ) → IsPermutation (x ∷ old) new → (y : ℕ) → Contains old y → Contains new y
 kept_by_push x old new is y h = Contains-permutation (x ∷ old) new y is (Contains-tail x old y h)
 
-pub in_pushed : (x : ℕ) (old new : List ℕ) → IsPermutation (x ∷ old) new → (y : ℕ) → Contains new y → (y ≡ x) ⊎ Contains old y
+pub in_pushed : (x : ℕ) (old new : List ℕ) → IsPermutation (x ∷ old) new → (y : ℕ) → Contains new y →
+    (y ≡ x) ⊎ Contains old y
 in_pushed x old new is y h =
     Contains-cons_cases x old y (Contains-permutation new (x ∷ old) y (IsPermutation-sym (x ∷ old) new is) h)
 
@@ -28,7 +29,8 @@ in_pushed x old new is y h =
 pub popped : (x : ℕ) (old new : List ℕ) → IsPermutation old (x ∷ new) → Contains old x
 popped x old new is = pushed x new old (IsPermutation-sym old (x ∷ new) is)
 
-pub kept_by_pop : (x : ℕ) (old new : List ℕ) → IsPermutation old (x ∷ new) → (y : ℕ) → Contains old y → (y ≡ x) ⊎ Contains new y
+pub kept_by_pop : (x : ℕ) (old new : List ℕ) → IsPermutation old (x ∷ new) → (y : ℕ) → Contains old y →
+    (y ≡ x) ⊎ Contains new y
 kept_by_pop x old new is = in_pushed x new old (IsPermutation-sym old (x ∷ new) is)
 
 pub in_popped : (x : ℕ) (old new : List ℕ) → IsPermutation old (x ∷ new) → (y : ℕ) → Contains new y → Contains old y

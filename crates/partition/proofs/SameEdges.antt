@@ -1,7 +1,11 @@
 -- Edge uses on one edge, and the edge between two points.
-use Rattle.std.proofs.Common.{Some, ◌≡◌, ℕ, Bool, true, false, ◌&&◌, ◌||◌, if◌then◌else◌, ℤ, refl, sym, ap, ◌∙◌, subst, ◌⊎◌, inl, inr}
+use Rattle.std.proofs.Common.{
+  Some, ◌≡◌, ℕ, Bool, true, false, ◌&&◌, ◌||◌, if◌then◌else◌, ℤ, refl, sym, ap, ◌∙◌, subst, ◌⊎◌, inl, inr,
+}
 use Rattle.std.specs.Cmp.{both_ways, IsTotalOrder}
-use Rattle.std.specs.Ordering.{int_eq, int_cmp, is_le, is_eq, ordering_then, ordering_reverse, partial_ordering_then, is_some_and}
+use Rattle.std.specs.Ordering.{
+  int_eq, int_cmp, is_le, is_eq, ordering_then, ordering_reverse, partial_ordering_then, is_some_and,
+}
 use Rattle.std.specs.declared.cmp.Ordering.{Ordering}
 use Rattle.std.specs.declared.cmp.Ordering.TheVariants.{Less, Equal, Greater}
 use Rattle.std.proofs.lemmas.Bool.{and_parts, and_from, or_cases, or_left, or_right, false≢true}
@@ -33,7 +37,8 @@ unfolding same_point
 points_from_same p q e =
     let xy = and_parts (int_eq p.x q.x && int_eq p.y q.y) (int_eq p.z q.z) e in
     let xs = and_parts (int_eq p.x q.x) (int_eq p.y q.y) xy.0 in
-    same_points p q ((Decides-int_eq p.x q.x).0 xs.0) ((Decides-int_eq p.y q.y).0 xs.1) ((Decides-int_eq p.z q.z).0 xy.1)
+    same_points p q ((Decides-int_eq p.x q.x).0 xs.0) ((Decides-int_eq p.y q.y).0 xs.1)
+        ((Decides-int_eq p.z q.z).0 xy.1)
 
 pub same_point-itself : (p : Pt) → same_point p p ≡ true
 unfolding same_point
@@ -69,7 +74,9 @@ on_one_edge-from s t e =
 
 -- the order of points is total, and points that tie are one
 pub point_cmp_total : IsTotalOrder point_cmp
-point_cmp_total = then_total (on_total (λ (p : Pt). p.x) int_cmp_total) (then_total (on_total (λ (p : Pt). p.y) int_cmp_total) (on_total (λ (p : Pt). p.z) int_cmp_total))
+point_cmp_total =
+    then_total (on_total (λ (p : Pt). p.x) int_cmp_total)
+    (then_total (on_total (λ (p : Pt). p.y) int_cmp_total) (on_total (λ (p : Pt). p.z) int_cmp_total))
 
 pub then_ties : (a b : Ordering) → ordering_then a b ≡ Equal → (a ≡ Equal) × (b ≡ Equal)
 then_ties Less b e = cc
@@ -86,7 +93,9 @@ points_from_tie p q e =
     same_points p q (ints_from_tie p.x q.x h.0) (ints_from_tie p.y q.y i.0) (ints_from_tie p.z q.z i.1)
 
 -- what a comparison of points by `<=` answers
-pub partial_below : (a b c : Ordering) → is_some_and is_le (partial_ordering_then (Some a) (partial_ordering_then (Some b) (Some c))) ≡ is_le (ordering_then a (ordering_then b c))
+pub partial_below : (a b c : Ordering) →
+    is_some_and is_le (partial_ordering_then (Some a) (partial_ordering_then (Some b) (Some c))) ≡ is_le
+    (ordering_then a (ordering_then b c))
 partial_below Less b c = refl
 partial_below Equal Less c = refl
 partial_below Equal Equal c = refl
@@ -109,7 +118,8 @@ one_way Equal e f = cc
 one_way Greater e f = cc
 
 both_below : (p q : Pt) → is_below p q ≡ true → is_below q p ≡ true → p ≡ q
-both_below p q h i = points_from_tie p q (below_or_above (point_cmp p q) h (ap is_le (sym (point_cmp_total.antisymm q p)) ∙ i))
+both_below p q h i =
+    points_from_tie p q (below_or_above (point_cmp p q) h (ap is_le (sym (point_cmp_total.antisymm q p)) ∙ i))
 
 one_below : (p q : Pt) → is_below p q ≡ false → is_below q p ≡ false → ⊥
 one_below p q h i = one_way (point_cmp p q) h (ap is_le (sym (point_cmp_total.antisymm q p)) ∙ i)
@@ -122,7 +132,9 @@ abbrev back : Pt × Pt → Pt × Pt → Bool
 back e f = same_point e.0 f.1 && same_point e.1 f.0
 
 up_up : (e f : Pt × Pt) → is_below e.0 e.1 ≡ true → is_below f.0 f.1 ≡ true → forth e f ≡ (forth e f || back e f)
-up_up e f h i = both_ways (forth e f) (forth e f || back e f) (or_left (forth e f) (back e f)) (λ k. by_way (or_cases (forth e f) (back e f) k))
+up_up e f h i =
+    both_ways (forth e f) (forth e f || back e f) (or_left (forth e f) (back e f))
+    (λ k. by_way (or_cases (forth e f) (back e f) k))
   where
     renumbered : (e.0 ≡ f.1) × (e.1 ≡ f.0) → forth e f ≡ true
     renumbered w =
@@ -143,7 +155,9 @@ apart_ways e f h i k =
     false≢true (sym i ∙ subst Q w.1 (subst P w.0 h))
 
 up_down : (e f : Pt × Pt) → is_below e.0 e.1 ≡ true → is_below f.0 f.1 ≡ false → back e f ≡ (forth e f || back e f)
-up_down e f h i = both_ways (back e f) (forth e f || back e f) (or_right (forth e f) (back e f)) (λ k. by_way (or_cases (forth e f) (back e f) k))
+up_down e f h i =
+    both_ways (back e f) (forth e f || back e f) (or_right (forth e f) (back e f))
+    (λ k. by_way (or_cases (forth e f) (back e f) k))
   where
     by_way : (forth e f ≡ true) ⊎ (back e f ≡ true) → back e f ≡ true
     by_way (inl k) = absurd (apart_ways e f h i k)
@@ -152,7 +166,8 @@ up_down e f h i = both_ways (back e f) (forth e f || back e f) (or_right (forth 
 swapped : (a b c d : Pt) → (same_point a b && same_point c d) ≡ true → (same_point c d && same_point a b) ≡ true
 swapped a b c d k = let w = pairs_from_same a b c d k in same_pairs-from c d a b w.1 w.0
 
-down_up : (e f : Pt × Pt) → is_below e.0 e.1 ≡ false → is_below f.0 f.1 ≡ true → (same_point e.1 f.0 && same_point e.0 f.1) ≡ (forth e f || back e f)
+down_up : (e f : Pt × Pt) → is_below e.0 e.1 ≡ false → is_below f.0 f.1 ≡ true →
+    (same_point e.1 f.0 && same_point e.0 f.1) ≡ (forth e f || back e f)
 down_up e f h i = both_ways (same_point e.1 f.0 && same_point e.0 f.1) (forth e f || back e f)
     (λ k. or_right (forth e f) (back e f) (swapped e.1 f.0 e.0 f.1 k)) (λ k. by_way (or_cases (forth e f) (back e f) k))
   where
@@ -162,7 +177,8 @@ down_up e f h i = both_ways (same_point e.1 f.0 && same_point e.0 f.1) (forth e 
         absurd (apart_ways f e i h (same_pairs-from f.0 e.0 f.1 e.1 (sym w.0) (sym w.1)))
     by_way (inr k) = swapped e.0 f.1 e.1 f.0 k
 
-down_down : (e f : Pt × Pt) → is_below e.0 e.1 ≡ false → is_below f.0 f.1 ≡ false → (same_point e.1 f.1 && same_point e.0 f.0) ≡ (forth e f || back e f)
+down_down : (e f : Pt × Pt) → is_below e.0 e.1 ≡ false → is_below f.0 f.1 ≡ false →
+    (same_point e.1 f.1 && same_point e.0 f.0) ≡ (forth e f || back e f)
 down_down e f h i = both_ways (same_point e.1 f.1 && same_point e.0 f.0) (forth e f || back e f)
     (λ k. or_left (forth e f) (back e f) (swapped e.1 f.1 e.0 f.0 k)) (λ k. by_way (or_cases (forth e f) (back e f) k))
   where
@@ -181,7 +197,8 @@ edge_by b e = if b then record { u = e.0; v = e.1 } else record { u = e.1; v = e
 abbrev one_edge : Edge → Edge → Bool
 one_edge e f = same_point e.u f.u && same_point e.v f.v
 
-edge_by-same : (e f : Pt × Pt) (b c : Bool) → is_below e.0 e.1 ≡ b → is_below f.0 f.1 ≡ c → one_edge (edge_by b e) (edge_by c f) ≡ (forth e f || back e f)
+edge_by-same : (e f : Pt × Pt) (b c : Bool) → is_below e.0 e.1 ≡ b → is_below f.0 f.1 ≡ c →
+    one_edge (edge_by b e) (edge_by c f) ≡ (forth e f || back e f)
 edge_by-same e f true true h i = up_up e f h i
 edge_by-same e f true false h i = up_down e f h i
 edge_by-same e f false true h i = down_up e f h i

@@ -1,5 +1,8 @@
 -- The places from a to e that pass a test, and e behind them, cut the places into segments.
-use Rattle.std.proofs.Common.{◌≡◌, ℕ, zero, suc, ◌+◌, ◌-◌, ◌<◌, ◌≤◌, Bool, true, false, cond, List, [], ◌∷◌, ◌++◌, length, get_or, filter, refl, sym, ap, ◌∙◌, arith, ◌⊎◌, inl, inr, subst}
+use Rattle.std.proofs.Common.{
+  ◌≡◌, ℕ, zero, suc, ◌+◌, ◌-◌, ◌<◌, ◌≤◌, Bool, true, false, cond, List, [], ◌∷◌, ◌++◌, length, get_or, filter, refl,
+  sym, ap, ◌∙◌, arith, ◌⊎◌, inl, inr, subst,
+}
 use Rattle.std.specs.List.{range_with_len}
 use Rattle.std.proofs.lemmas.Bool.{cases_lt, cases_Bool}
 
@@ -11,10 +14,12 @@ pub record AreSegments (passes : ℕ → Bool) (a e : ℕ) (starts : List ℕ) :
   pub ends : get_or starts (length starts - 1) 0 ≡ e
   pub begins : (k : ℕ) → suc k < length starts → passes (get_or starts k 0) ≡ true
   pub before : (p : ℕ) → a ≤ p → p < get_or starts 0 0 → passes p ≡ false
-  pub between : (k p : ℕ) → suc k < length starts → get_or starts k 0 < p → p < get_or starts (suc k) 0 → passes p ≡ false
+  pub between : (k p : ℕ) → suc k < length starts → get_or starts k 0 < p → p < get_or starts (suc k) 0 →
+      passes p ≡ false
 
 -- the last element of a list stays the last behind another
-last_of_cons : (x : ℕ) (xs : List ℕ) → 0 < length xs → get_or (x ∷ xs) (length (x ∷ xs) - 1) 0 ≡ get_or xs (length xs - 1) 0
+last_of_cons : (x : ℕ) (xs : List ℕ) → 0 < length xs →
+    get_or (x ∷ xs) (length (x ∷ xs) - 1) 0 ≡ get_or xs (length xs - 1) 0
 last_of_cons x [] h = absurd (omega arith)
 last_of_cons x (y ∷ ys) h =
     let e : length (x ∷ y ∷ ys) - 1 ≡ suc (length (y ∷ ys) - 1) = omega arith in ap (λ n. get_or (x ∷ y ∷ ys) n 0) e
@@ -31,7 +36,8 @@ AreSegments-none passes a = record {
 }
 
 -- a place that passes begins a segment
-AreSegments-cons : (passes : ℕ → Bool) (a e : ℕ) (starts : List ℕ) → passes a ≡ true → AreSegments passes (a + 1) e starts →
+AreSegments-cons : (passes : ℕ → Bool) (a e : ℕ) (starts : List ℕ) → passes a ≡ true →
+    AreSegments passes (a + 1) e starts →
     AreSegments passes a e (a ∷ starts)
 AreSegments-cons passes a e starts at s = record {
   some = omega arith;
@@ -51,12 +57,14 @@ AreSegments-cons passes a e starts at s = record {
     begins zero h = at
     begins (suc k) h = s.begins k (omega arith)
 
-    between : (k p : ℕ) → suc k < length (a ∷ starts) → get_or (a ∷ starts) k 0 < p → p < get_or (a ∷ starts) (suc k) 0 → passes p ≡ false
+    between : (k p : ℕ) → suc k < length (a ∷ starts) → get_or (a ∷ starts) k 0 < p →
+        p < get_or (a ∷ starts) (suc k) 0 → passes p ≡ false
     between zero p h i j = s.before p (omega arith) j
     between (suc k) p h i j = s.between k p (omega arith) i j
 
 -- a place that doesn't lies in the segment before
-AreSegments-skip : (passes : ℕ → Bool) (a e : ℕ) (starts : List ℕ) → passes a ≡ false → AreSegments passes (a + 1) e starts →
+AreSegments-skip : (passes : ℕ → Bool) (a e : ℕ) (starts : List ℕ) → passes a ≡ false →
+    AreSegments passes (a + 1) e starts →
     AreSegments passes a e starts
 AreSegments-skip passes a e starts at s = record {
   some = s.some;
@@ -79,14 +87,21 @@ AreSegments-skip passes a e starts at s = record {
 abbrev segments : (ℕ → Bool) → ℕ → ℕ → List ℕ
 segments passes a n = filter passes (range_with_len a n) ++ (a + n) ∷ []
 
-segments_more : (passes : ℕ → Bool) (a n : ℕ) → AreSegments passes (a + 1) (a + suc n) (filter passes (range_with_len (a + 1) n) ++ (a + suc n) ∷ []) →
+segments_more : (passes : ℕ → Bool) (a n : ℕ) →
+    AreSegments passes (a + 1) (a + suc n) (filter passes (range_with_len (a + 1) n) ++ (a + suc n) ∷ []) →
     (passes a ≡ true) ⊎ (passes a ≡ false) → AreSegments passes a (a + suc n) (segments passes a (suc n))
 segments_more passes a n rest (inl h) =
-    let P : Bool → Type 0 = λ b. AreSegments passes a (a + suc n) (cond b (a ∷ filter passes (range_with_len (a + 1) n)) (filter passes (range_with_len (a + 1) n)) ++ (a + suc n) ∷ []) in
-    subst P (sym h) (AreSegments-cons passes a (a + suc n) (filter passes (range_with_len (a + 1) n) ++ (a + suc n) ∷ []) h rest)
+    let P : Bool → Type 0 =
+        λ b. AreSegments passes a (a + suc n) (cond b (a ∷ filter passes (range_with_len (a + 1) n))
+        (filter passes (range_with_len (a + 1) n)) ++ (a + suc n) ∷ []) in
+    subst P (sym h) (AreSegments-cons passes a (a + suc n)
+        (filter passes (range_with_len (a + 1) n) ++ (a + suc n) ∷ []) h rest)
 segments_more passes a n rest (inr h) =
-    let P : Bool → Type 0 = λ b. AreSegments passes a (a + suc n) (cond b (a ∷ filter passes (range_with_len (a + 1) n)) (filter passes (range_with_len (a + 1) n)) ++ (a + suc n) ∷ []) in
-    subst P (sym h) (AreSegments-skip passes a (a + suc n) (filter passes (range_with_len (a + 1) n) ++ (a + suc n) ∷ []) h rest)
+    let P : Bool → Type 0 =
+        λ b. AreSegments passes a (a + suc n) (cond b (a ∷ filter passes (range_with_len (a + 1) n))
+        (filter passes (range_with_len (a + 1) n)) ++ (a + suc n) ∷ []) in
+    subst P (sym h) (AreSegments-skip passes a (a + suc n)
+        (filter passes (range_with_len (a + 1) n) ++ (a + suc n) ∷ []) h rest)
 
 pub segments_of : (passes : ℕ → Bool) (a n : ℕ) → AreSegments passes a (a + n) (segments passes a n)
 segments_of passes a zero = AreSegments-none passes a
@@ -102,14 +117,16 @@ pub record SegmentAt (starts : List ℕ) (p : ℕ) : Type 0 where
   pub from : get_or starts number 0 ≤ p
   pub to : p < get_or starts (suc number) 0
 
-segment_by_place : (s t : ℕ) (starts : List ℕ) (p : ℕ) → s ≤ p → (t ≤ p → SegmentAt (t ∷ starts) p) → (p < t) ⊎ (t ≤ p) →
+segment_by_place : (s t : ℕ) (starts : List ℕ) (p : ℕ) → s ≤ p → (t ≤ p → SegmentAt (t ∷ starts) p) →
+    (p < t) ⊎ (t ≤ p) →
     SegmentAt (s ∷ t ∷ starts) p
 segment_by_place s t starts p l later (inl i) = record { number = 0; inside = omega arith; from = l; to = i }
 segment_by_place s t starts p l later (inr i) =
     let r = later i in
     record { number = suc r.number; inside = omega (arith, r.inside); from = r.from; to = r.to }
 
-pub segment_at : (starts : List ℕ) (p : ℕ) → get_or starts 0 0 ≤ p → p < get_or starts (length starts - 1) 0 → SegmentAt starts p
+pub segment_at : (starts : List ℕ) (p : ℕ) → get_or starts 0 0 ≤ p → p < get_or starts (length starts - 1) 0 →
+    SegmentAt starts p
 segment_at [] p l h = absurd (omega arith)
 segment_at (s ∷ []) p l h = absurd (omega arith)
 segment_at (s ∷ t ∷ starts) p l h =

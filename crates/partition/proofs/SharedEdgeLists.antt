@@ -1,5 +1,7 @@
 -- Shared edges in a flat list: how many there are, and where each is.
-use Rattle.std.proofs.Common.{◌≡◌, ◌<◌, ◌≤◌, ◌+◌, ◌-◌, ℕ, zero, suc, List, [], length, get_or, refl, sym, ap, ◌∙◌, arith}
+use Rattle.std.proofs.Common.{
+  ◌≡◌, ◌<◌, ◌≤◌, ◌+◌, ◌-◌, ℕ, zero, suc, List, [], length, get_or, refl, sym, ap, ◌∙◌, arith,
+}
 use Rattle.std.specs.List.{range_with_len}
 use Rattle.std.proofs.lemmas.List.{length-map, get_or-map, get_or_read}
 use Rattle.partition.specs.Internal.SharedEdges.{AreStarts, shared_edge_at, shared_edges_of}
@@ -19,10 +21,12 @@ length-shared_edges_of items starts =
     length-map (range_with_len 0 (length starts - 1)) (shared_edge_at items starts) ∙ length-range 0 (length starts - 1)
 
 -- one of them
-pub get_or-shared_edges_of : (items starts : List ℕ) (r : ℕ) → r + 1 < length starts → get_or (shared_edges_of items starts) r [] ≡ shared_edge_at items starts r
+pub get_or-shared_edges_of : (items starts : List ℕ) (r : ℕ) → r + 1 < length starts →
+    get_or (shared_edges_of items starts) r [] ≡ shared_edge_at items starts r
 get_or-shared_edges_of items starts r h =
     let within : r < length starts - 1 = omega arith in
-    get_or-map (shared_edge_at items starts) (range_with_len 0 (length starts - 1)) r 0 [] (omega (arith, length-range 0 (length starts - 1)))
+    get_or-map (shared_edge_at items starts) (range_with_len 0 (length starts - 1)) r 0 []
+        (omega (arith, length-range 0 (length starts - 1)))
     ∙ ap (shared_edge_at items starts) (get_or-range 0 (length starts - 1) r 0 within ∙ omega arith)
 
 -- a shared edge lies within the items
@@ -32,7 +36,8 @@ pub record IsSharedEdgeAt (items starts : List ℕ) (shared : List (List ℕ)) (
   pub within : get_or starts (r + 1) 0 ≤ length items
   pub is : get_or shared r [] ≡ shared_edge_at items starts r
 
-pub edge_is_at : (items starts : List ℕ) (shared : List (List ℕ)) (r : ℕ) → AreStarts items starts → shared_edges_of items starts ≡ shared →
+pub edge_is_at : (items starts : List ℕ) (shared : List (List ℕ)) (r : ℕ) → AreStarts items starts →
+    shared_edges_of items starts ≡ shared →
     r < length shared → IsSharedEdgeAt items starts shared r
 edge_is_at items starts shared r are e h =
     let inside : r + 1 < length starts = omega (arith, length-shared_edges_of items starts, ap length e) in

@@ -1,11 +1,15 @@
 -- Worked journals, computed: how the pool stands after them, what comes next and which page is evicted.
-use Rattle.std.proofs.Common.{◌≡◌, ℕ, zero, suc, inl, inr, arith, Bool, true, false, List, [], ◌∷◌, ◌++◌, map, Some, None, Option, refl}
+use Rattle.std.proofs.Common.{
+  ◌≡◌, ℕ, zero, suc, inl, inr, arith, Bool, true, false, List, [], ◌∷◌, ◌++◌, map, Some, None, Option, refl,
+}
 use Rattle.std.specs.Prelude.{replicate}
 use Rattle.geom_core.specs.declared.digests.Digest32.{Digest32}
 use Rattle.journal.specs.declared.entries.Entry.{Entry}
 use Rattle.journal.specs.declared.entries.Spoilt.TheVariants.{Short}
 use Rattle.journal.specs.declared.entries.What.{What}
-use Rattle.journal.specs.declared.entries.What.TheVariants.{Pin, Settle, Ask, Narrow, Unpin, Take, Install, Fail, Spoil, Starve, Full, Stop}
+use Rattle.journal.specs.declared.entries.What.TheVariants.{
+  Pin, Settle, Ask, Narrow, Unpin, Take, Install, Fail, Spoil, Starve, Full, Stop,
+}
 use Rattle.journal.specs.declared.layouts.Layout.{Layout}
 use Rattle.pool_rules.specs.declared.next_load.Next.TheVariants as Next
 use Rattle.pool_rules.specs.declared.want.Want.{Want}

@@ -1,6 +1,9 @@
 -- What the events' lemmas take, from what the tables keep: counts that are no later than the entries, and frames
 -- that the state has.
-use Rattle.std.proofs.Common.{◌≡◌, ◌≢◌, ℕ, ◌+◌, ◌<◌, ◌≤◌, List, [], ◌∷◌, Bool, true, false, not, cond, Option, Some, None, is_some, get_or, refl, sym, ap, ◌∙◌, subst, arith}
+use Rattle.std.proofs.Common.{
+  ◌≡◌, ◌≢◌, ℕ, ◌+◌, ◌<◌, ◌≤◌, List, [], ◌∷◌, Bool, true, false, not, cond, Option, Some, None, is_some, get_or, refl,
+  sym, ap, ◌∙◌, subst, arith,
+}
 use Rattle.std.proofs.lemmas.Bool.Decides.{nat_tests}
 use Rattle.std.specs.List.{AllByRecursion}
 use Rattle.std.specs.Option.{option_map}
@@ -8,7 +11,10 @@ use Rattle.pool_rules.specs.Frame.{Frame}
 use Rattle.pool_rules.specs.State.{State, is_live}
 use Rattle.pool_rules.specs.Victim.{is_pinned}
 use Rattle.pool_tables.specs.Eviction.{is_in_snapshot}
-use Rattle.pool_tables.specs.FrameItems.{FrameItems, asked_in, asked_item, ended_in, ended_item, installed_item, item_of, narrowed_item, pinned_item, settled_item}
+use Rattle.pool_tables.specs.FrameItems.{
+  FrameItems, asked_in, asked_item, ended_in, ended_item, installed_item, item_of, narrowed_item, pinned_item,
+  settled_item,
+}
 use Rattle.pool_tables.specs.FrameMeaning.{AreFrames, IsTimelyItem, IsTimelyTable, frame_at}
 use Rattle.pool_tables.specs.FrameQueries.{is_live_in}
 use Rattle.pool_tables.specs.PageRecords.{record_at}
@@ -28,7 +34,8 @@ use Rattle.pool_tables.proofs.PinCounts.{is_live-item}
 -- a page that is installed by an entry to come is in no snapshot
 pub snapshots-uncovered : (entries : ℕ) (table : FrameItems) → IsTimelyTable entries table → (n : ℕ) (item : FrameItem)
     → item_of table n ≡ Some item → is_in_snapshot item.snapshot (entries + 1) ≡ false
-snapshots-uncovered entries table timely n item at = pick item.snapshot (λ c has. (timely.items n item at).snapshot c has)
+snapshots-uncovered entries table timely n item at =
+    pick item.snapshot (λ c has. (timely.items n item at).snapshot c has)
   where
     pick : (o : Option ℕ) → ((c : ℕ) → o ≡ Some c → c ≤ entries) → is_in_snapshot o (entries + 1) ≡ false
     pick None earlier = refl
@@ -38,7 +45,8 @@ snapshots-uncovered entries table timely n item at = pick item.snapshot (λ c ha
 abbrev WasTimely : ℕ → Option FrameItem → Type 0
 WasTimely entries o = (i : FrameItem) → o ≡ Some i → IsTimelyItem entries i
 
-later-count : (entries : ℕ) (o : Option ℕ) → ((c : ℕ) → o ≡ Some c → c ≤ entries) → (c : ℕ) → o ≡ Some c → c ≤ entries + 1
+later-count : (entries : ℕ) (o : Option ℕ) → ((c : ℕ) → o ≡ Some c → c ≤ entries) → (c : ℕ) → o ≡ Some c →
+    c ≤ entries + 1
 later-count entries o earlier c at = omega (arith, earlier c at)
 
 now-count : (entries c : ℕ) → Some (entries + 1) ≡ Some c → c ≤ entries + 1
@@ -53,7 +61,8 @@ IsTimelyItem-pinned entries by None was =
     record { asked = omega arith; ended = no-count entries; snapshot = now-count entries }
 IsTimelyItem-pinned entries by (Some item) was =
     let t = was item refl in
-    record { asked = omega (arith, t.asked); ended = later-count entries item.ended_at t.ended; snapshot = now-count entries }
+    record { asked = omega (arith, t.asked); ended = later-count entries item.ended_at t.ended; snapshot =
+        now-count entries }
 
 pub IsTimelyItem-settled : (entries : ℕ) (by : MakerId) (pins : PinLists) (item : FrameItem) → IsTimelyItem entries item
     → IsTimelyItem (entries + 1) (settled_item by (entries + 1) pins item)
@@ -63,12 +72,14 @@ IsTimelyItem-settled entries by pins item t =
 pub IsTimelyItem-asked : (entries : ℕ) (item : FrameItem) → IsTimelyItem entries item
     → IsTimelyItem (entries + 1) (asked_item (entries + 1) item)
 IsTimelyItem-asked entries item t =
-    record { asked = omega arith; ended = later-count entries item.ended_at t.ended; snapshot = later-count entries item.snapshot t.snapshot }
+    record { asked = omega arith; ended = later-count entries item.ended_at t.ended; snapshot =
+        later-count entries item.snapshot t.snapshot }
 
 pub IsTimelyItem-narrowed : (entries : ℕ) (by : MakerId) (pages : List ℕ) (item : FrameItem) → IsTimelyItem entries item
     → IsTimelyItem (entries + 1) (narrowed_item by pages item)
 IsTimelyItem-narrowed entries by pages item t =
-    record { asked = omega (arith, t.asked); ended = later-count entries item.ended_at t.ended; snapshot = no-count entries }
+    record { asked = omega (arith, t.asked); ended = later-count entries item.ended_at t.ended; snapshot =
+        no-count entries }
 
 pub IsTimelyItem-ended : (entries : ℕ) (item : FrameItem) → IsTimelyItem entries item
     → IsTimelyItem (entries + 1) (ended_item (entries + 1) item)
@@ -78,11 +89,13 @@ IsTimelyItem-ended entries item t =
 IsTimelyItem-installed : (entries page : ℕ) (item : FrameItem) → IsTimelyItem entries item
     → IsTimelyItem (entries + 1) (installed_item page item)
 IsTimelyItem-installed entries page item t =
-    record { asked = omega (arith, t.asked); ended = later-count entries item.ended_at t.ended; snapshot = later-count entries item.snapshot t.snapshot }
+    record { asked = omega (arith, t.asked); ended = later-count entries item.ended_at t.ended; snapshot =
+        later-count entries item.snapshot t.snapshot }
 
 IsTimelyItem-later : (entries : ℕ) (item : FrameItem) → IsTimelyItem entries item → IsTimelyItem (entries + 1) item
 IsTimelyItem-later entries item t =
-    record { asked = omega (arith, t.asked); ended = later-count entries item.ended_at t.ended; snapshot = later-count entries item.snapshot t.snapshot }
+    record { asked = omega (arith, t.asked); ended = later-count entries item.ended_at t.ended; snapshot =
+        later-count entries item.snapshot t.snapshot }
 
 -- an event that changes no item
 pub IsTimelyTable-later : (entries : ℕ) (table : FrameItems) → IsTimelyTable entries table
@@ -106,7 +119,8 @@ IsTimelyTable-installed entries page waits old new timely items last = record {
     pick n true None is item at = cc
     pick n true (Some old_item) is item at =
         let same : installed_item page old_item ≡ item = cc in
-        subst (IsTimelyItem (entries + 1)) same (IsTimelyItem-installed entries page old_item (timely.items n old_item is))
+        subst (IsTimelyItem (entries + 1)) same (IsTimelyItem-installed entries page old_item
+            (timely.items n old_item is))
     pick n false None is item at = cc
     pick n false (Some old_item) is item at =
         let same : old_item ≡ item = cc in
@@ -133,7 +147,8 @@ pub unpinned-frames : (s : State) (page : ℕ) → is_pinned s page ≡ false �
     → frame_at n s.frames ≡ Some f → get_or f.pins page false ≡ false
 unpinned-frames s page none n f at =
     elim (get_or f.pins page false) as (λ b. get_or f.pins page false ≡ b → b ≡ false) [
-      | true ↦ λ pins. let some : is_pinned s page ≡ true = any-found (λ g. get_or g.pins page false) n s.frames f at pins in cc
+      | true ↦ λ pins. let some : is_pinned s page ≡ true =
+          any-found (λ g. get_or g.pins page false) n s.frames f at pins in cc
       | false ↦ λ free. refl
     ] refl
 

@@ -75,5 +75,6 @@ over-ended = refl
 pub closed-half : closed_up (counts 6) (want 0 4 3 ∷ want 0 5 3 ∷ []) ≡ want 0 5 3 ∷ []
 closed-half = refl
 
-pub open-third : closed_up (counts 6) (want 0 4 3 ∷ want 0 5 3 ∷ want 0 6 3 ∷ []) ≡ want 0 4 3 ∷ want 0 5 3 ∷ want 0 6 3 ∷ []
+pub open-third : closed_up (counts 6) (want 0 4 3 ∷ want 0 5 3 ∷ want 0 6 3 ∷ []) ≡ want 0 4 3 ∷ want 0 5 3 ∷ want 0 6 3
+    ∷ []
 open-third = refl

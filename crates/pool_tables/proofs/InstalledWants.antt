@@ -1,5 +1,7 @@
 -- A loop that installs a page for each want of it: one want more.
-use Rattle.std.proofs.Common.{◌≡◌, ℕ, ◌+◌, ◌==◌, List, [], ◌∷◌, Bool, true, false, cond, ◌&&◌, ◌||◌, Option, Some, None, refl, sym, ap, ◌∙◌, arith}
+use Rattle.std.proofs.Common.{
+  ◌≡◌, ℕ, ◌+◌, ◌==◌, List, [], ◌∷◌, Bool, true, false, cond, ◌&&◌, ◌||◌, Option, Some, None, refl, sym, ap, ◌∙◌, arith,
+}
 use Rattle.std.specs.Option.{option_map}
 use Rattle.pool_rules.specs.State.{waits_for}
 use Rattle.pool_tables.specs.FrameItems.{FrameItems, asked_in, ended_in, installed_item, item_of}
@@ -19,7 +21,8 @@ with_flag-twice : (page : ℕ) (missing : List ℕ) (flags : List Bool)
 with_flag-twice page [] flags = refl
 with_flag-twice page (p ∷ missing) [] = refl
 with_flag-twice page (p ∷ missing) (flag ∷ flags) =
-    ap (λ b. b ∷ with_flag page missing (with_flag page missing flags)) (or-twice (p == page) flag) ∙ ap (λ rest. ((p == page) || flag) ∷ rest) (with_flag-twice page missing flags)
+    ap (λ b. b ∷ with_flag page missing (with_flag page missing flags)) (or-twice (p == page) flag) ∙
+        ap (λ rest. ((p == page) || flag) ∷ rest) (with_flag-twice page missing flags)
 
 -- the item, or the item with the page installed
 abbrev pub grown : Bool → ℕ → Option FrameItem → Option FrameItem
@@ -29,7 +32,8 @@ installed-twice : (page : ℕ) (item : Option FrameItem)
     → option_map (installed_item page) (option_map (installed_item page) item) ≡ option_map (installed_item page) item
 installed-twice page None = refl
 installed-twice page (Some item) =
-    let with_flags : List Bool → Option FrameItem = λ flags. Some (record item { pins = record item.pins { flags = flags } }) in
+    let with_flags : List Bool → Option FrameItem =
+        λ flags. Some (record item { pins = record item.pins { flags = flags } }) in
     ap with_flags (with_flag-twice page item.pins.missing item.pins.flags)
 
 pub grown-grown : (a b : Bool) (page : ℕ) (item : Option FrameItem)
@@ -64,7 +68,8 @@ pub is_waiting-alike : (records : List PageRecord) (new old : FrameItems) (page 
 is_waiting-alike records new old page w asked ended last = rw (asked, ended, last) refl
 
 -- the frames after one want more, and then after those that are left
-pub items-step : (counts : WantCounts) (page n : ℕ) (w : QueuedWant) (all rest : List QueuedWant) (b : Bool) (item now target : Option FrameItem)
+pub items-step : (counts : WantCounts) (page n : ℕ) (w : QueuedWant) (all rest : List QueuedWant) (b : Bool)
+    (item now target : Option FrameItem)
     → all ≡ w ∷ rest → grown (waits_for (standing counts all) n page) page item ≡ target
     → b ≡ is_waiting counts page w → now ≡ grown (b && (w.frame.0 == n)) page item
     → grown (waits_for (standing counts rest) n page) page now ≡ target

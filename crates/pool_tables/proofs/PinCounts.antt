@@ -1,5 +1,8 @@
 -- What the count of explicit pins of a page tells, and which pages some live frame pins.
-use Rattle.std.proofs.Common.{◌≡◌, ℕ, ◌*◌, length, ◌+◌, ◌<◌, ◌≤◌, ◌==◌, nat_cmp, nat_lt, List, [], ◌∷◌, Bool, true, false, cond, ◌&&◌, ◌||◌, ⊎_elim, Option, Some, None, get_or, refl, sym, ap, ◌∙◌, subst, arith, eq-eqb, is_some}
+use Rattle.std.proofs.Common.{
+  ◌≡◌, ℕ, ◌*◌, length, ◌+◌, ◌<◌, ◌≤◌, ◌==◌, nat_cmp, nat_lt, List, [], ◌∷◌, Bool, true, false, cond, ◌&&◌, ◌||◌, ⊎_elim,
+  Option, Some, None, get_or, refl, sym, ap, ◌∙◌, subst, arith, eq-eqb, is_some,
+}
 use Rattle.std.proofs.lemmas.Bool.Decides.{nat_tests}
 use Rattle.std.proofs.lemmas.List.Sums.{sum_by-cons}
 use Rattle.std.specs.BTreeMap.{is_at}
@@ -40,8 +43,10 @@ pub pin_count-least : (items : List (ℕ × FrameItem)) (n : ℕ) (item : FrameI
 pin_count-least [] n item page at = cc
 pin_count-least (e ∷ items) n item page at =
     let sum = pin_count-cons e items page in
-    elim (is_at (nat_cmp n) e.0) as (λ b. cond b (Some e.1) (item_in items n) ≡ Some item → counted page item ≤ pin_count (e ∷ items) page) [
-      | true ↦ λ k. let same : e.1 ≡ item = cc in let count : counted page e.1 ≡ counted page item = ap (counted page) same in omega (arith, sum, count)
+    elim (is_at (nat_cmp n) e.0) as (λ b. cond b (Some e.1) (item_in items n) ≡ Some item →
+        counted page item ≤ pin_count (e ∷ items) page) [
+      | true ↦ λ k. let same : e.1 ≡ item =
+          cc in let count : counted page e.1 ≡ counted page item = ap (counted page) same in omega (arith, sum, count)
       | false ↦ λ k. omega (arith, sum, pin_count-least items n item page k)
     ] at
 
@@ -50,7 +55,8 @@ key-of : (P : ℕ → Type 0) (items : List (ℕ × FrameItem)) (n : ℕ) (item 
     → AllByRecursion P (keys_of items) → item_in items n ≡ Some item → P n
 key-of P [] n item all at = cc
 key-of P (e ∷ items) n item all at =
-    elim (is_at (nat_cmp n) e.0) as (λ b. is_at (nat_cmp n) e.0 ≡ b → cond b (Some e.1) (item_in items n) ≡ Some item → P n) [
+    elim (is_at (nat_cmp n) e.0) as (λ b. is_at (nat_cmp n) e.0 ≡ b → cond b (Some e.1) (item_in items n) ≡ Some item →
+        P n) [
       | true ↦ λ yes k. subst P (sym (same-eqb n e.0 (sym (is_at-eqb n e.0) ∙ yes))) all.0
       | false ↦ λ no k. key-of P items n item all.1 k
     ] refl at
@@ -58,7 +64,9 @@ key-of P (e ∷ items) n item all at =
 -- a key after another is another
 apart : (a b : ℕ) → nat_cmp a b ≡ Less → is_at (nat_cmp b) a ≡ false
 apart a b less = elim (is_at (nat_cmp b) a) as (λ t. is_at (nat_cmp b) a ≡ t → t ≡ false) [
-  | true ↦ λ yes. let same = same-eqb b a (sym (is_at-eqb b a) ∙ yes) in let no : is_at (nat_cmp a) b ≡ false = ap is_eq less in let is : is_at (nat_cmp a) b ≡ true = is_at-eqb a b ∙ eq-eqb a b (sym same) in cc
+  | true ↦ λ yes. let same =
+      same-eqb b a (sym (is_at-eqb b a) ∙ yes) in let no : is_at (nat_cmp a) b ≡ false =
+      ap is_eq less in let is : is_at (nat_cmp a) b ≡ true = is_at-eqb a b ∙ eq-eqb a b (sym same) in cc
   | false ↦ λ no. refl
 ] refl
 
@@ -69,20 +77,26 @@ pub pin_count-some : (items : List (ℕ × FrameItem)) (page : ℕ) → IsStrict
 unfolding IsStrictlySortedBy
 pin_count-some [] page ordered some = absurd (omega (arith, some))
 pin_count-some (e ∷ items) page ordered some =
-    elim (nat_lt 0 (counted page e.1)) as (λ b. nat_lt 0 (counted page e.1) ≡ b → (n : ℕ) × (item : FrameItem) × (item_in (e ∷ items) n ≡ Some item) × (0 < counted page item)) [
-      | true ↦ λ yes. let here : 0 < counted page e.1 = grind (arith, nat_tests) in (e.0, e.1, ap (λ b. cond b (Some e.1) (item_in items e.0)) (is_at-eqb e.0 e.0 ∙ eq-eqb e.0 e.0 refl), here)
+    elim (nat_lt 0 (counted page e.1)) as (λ b. nat_lt 0 (counted page e.1) ≡ b → (n : ℕ) × (item : FrameItem) ×
+        (item_in (e ∷ items) n ≡ Some item) × (0 < counted page item)) [
+      | true ↦ λ yes. let here : 0 < counted page e.1 =
+          grind (arith, nat_tests) in (e.0, e.1, ap (λ b. cond b (Some e.1) (item_in items e.0))
+          (is_at-eqb e.0 e.0 ∙ eq-eqb e.0 e.0 refl), here)
       | false ↦ λ no.
           let none : counted page e.1 ≡ 0 = grind (arith, nat_tests) in
           let found = pin_count-some items page ordered.1 (omega (arith, some, none, pin_count-cons e items page)) in
           let above = key-of (λ k. nat_cmp e.0 k ≡ Less) items found.0 found.1 ordered.0 found.2 in
-          (found.0, found.1, ap (λ b. cond b (Some e.1) (item_in items found.0)) (apart e.0 found.0 above) ∙ found.2, found.3)
+          (found.0, found.1, ap (λ b. cond b (Some e.1) (item_in items found.0)) (apart e.0 found.0 above) ∙
+              found.2, found.3)
     ] refl
 
 -- an item counts a page at most twice
 counted-most : (item : FrameItem) (page : ℕ) → ascends item.pins.named ≡ true → ascends item.pins.missing ≡ true
     → counted page item ≤ 2
 counted-most item page named missing =
-    omega (arith, times-append item.pins.named (flagged item.pins.missing item.pins.flags) page, times-ascending 0 item.pins.named page named, times-flagged item.pins.missing item.pins.flags page, times-ascending 0 item.pins.missing page missing)
+    omega (arith, times-append item.pins.named (flagged item.pins.missing item.pins.flags) page,
+        times-ascending 0 item.pins.named page named, times-flagged item.pins.missing item.pins.flags page,
+        times-ascending 0 item.pins.missing page missing)
 
 sum-most : (items : List (ℕ × FrameItem)) (page : ℕ) → IsStrictlySortedBy nat_cmp (keys_of items)
     → ((n : ℕ) (item : FrameItem) → item_in items n ≡ Some item → counted page item ≤ 2)
@@ -90,7 +104,8 @@ sum-most : (items : List (ℕ × FrameItem)) (page : ℕ) → IsStrictlySortedBy
 unfolding IsStrictlySortedBy
 sum-most [] page ordered few = omega arith
 sum-most (e ∷ items) page ordered few =
-    let here = few e.0 e.1 (ap (λ b. cond b (Some e.1) (item_in items e.0)) (is_at-eqb e.0 e.0 ∙ eq-eqb e.0 e.0 refl)) in
+    let here =
+        few e.0 e.1 (ap (λ b. cond b (Some e.1) (item_in items e.0)) (is_at-eqb e.0 e.0 ∙ eq-eqb e.0 e.0 refl)) in
     let rest = sum-most items page ordered.1 (λ n item at.
     let above = key-of (λ k. nat_cmp e.0 k ≡ Less) items n item ordered.0 at in
     few n item (ap (λ b. cond b (Some e.1) (item_in items n)) (apart e.0 n above) ∙ at)) in
@@ -101,7 +116,8 @@ sum-most (e ∷ items) page ordered few =
 pub pin_count-most : (resident : List Bool) (installed_at : ℕ → ℕ) (frames : List Frame) (items : List (ℕ × FrameItem))
     (page : ℕ) → AreFrames resident installed_at frames items → pin_count items page ≤ 2 * length items
 pin_count-most resident installed_at frames items page are =
-    sum-most items page are.ordered (λ n item at. few (frame_at n frames) item (subst (λ (o : Option FrameItem). IsItemOf resident installed_at (frame_at n frames) o) at (are.items n)))
+    sum-most items page are.ordered (λ n item at. few (frame_at n frames) item
+        (subst (λ (o : Option FrameItem). IsItemOf resident installed_at (frame_at n frames) o) at (are.items n)))
   where
     few : (f : Option Frame) (item : FrameItem) → IsItemOf resident installed_at f (Some item) → counted page item ≤ 2
     few None item is =
@@ -116,14 +132,17 @@ pinned_by page f = get_or f.pins page false
 
 -- the frame of an item that has a snapshot, or pins a page explicitly, is live
 abbrev HasFrame : List Bool → (ℕ → ℕ) → List Frame → ℕ → FrameItem → Type 0
-HasFrame resident installed_at frames n item = (f : Frame) × (frame_at n frames ≡ Some f) × IsFrameItem resident installed_at f item
+HasFrame resident installed_at frames n item =
+    (f : Frame) × (frame_at n frames ≡ Some f) × IsFrameItem resident installed_at f item
 
-frame-of : (resident : List Bool) (installed_at : ℕ → ℕ) (frames : List Frame) (items : List (ℕ × FrameItem)) (n : ℕ) (item : FrameItem)
+frame-of : (resident : List Bool) (installed_at : ℕ → ℕ) (frames : List Frame) (items : List (ℕ × FrameItem)) (n : ℕ)
+    (item : FrameItem)
     → AreFrames resident installed_at frames items → item_in items n ≡ Some item
     → ((item.snapshot ≡ None) → (item.pins ≡ record { named = []; missing = []; flags = [] }) → ⊥)
     → HasFrame resident installed_at frames n item
 frame-of resident installed_at frames items n item are at some =
-    pick (frame_at n frames) refl (subst (λ (o : Option FrameItem). IsItemOf resident installed_at (frame_at n frames) o) at (are.items n))
+    pick (frame_at n frames) refl (subst (λ (o : Option FrameItem). IsItemOf resident installed_at
+        (frame_at n frames) o) at (are.items n))
   where
     pick : (o : Option Frame) → frame_at n frames ≡ o → IsItemOf resident installed_at o (Some item)
         → HasFrame resident installed_at frames n item
@@ -159,12 +178,16 @@ is_pinned-counted s installed_at items latest page are is_latest resident = same
         or-left (nat_lt 0 (pin_count items page)) (is_in_snapshot latest (installed_at page)) yes)
         (λ both.
         let parts = and-both (get_or s.resident page false) (is_in_snapshot item.0.snapshot (installed_at page)) both in
-        or-right (nat_lt 0 (pin_count items page)) (is_in_snapshot latest (installed_at page)) (covered item.0.snapshot latest found.0 (ap snapshot_in item.1) is_latest parts.1))
-        (or-cases (is_among (pinned_pages item.0.pins) page) (get_or s.resident page false && is_in_snapshot item.0.snapshot (installed_at page)) (sym (item.2.pins page) ∙ found.3))
+        or-right (nat_lt 0 (pin_count items page)) (is_in_snapshot latest (installed_at page))
+            (covered item.0.snapshot latest found.0 (ap snapshot_in item.1) is_latest parts.1))
+        (or-cases (is_among (pinned_pages item.0.pins) page)
+            (get_or s.resident page false && is_in_snapshot item.0.snapshot (installed_at page))
+            (sym (item.2.pins page) ∙ found.3))
 
     shown : (n : ℕ) (f : Frame) (item : FrameItem) → frame_at n s.frames ≡ Some f
         → IsFrameItem s.resident installed_at f item
-        → (is_among (pinned_pages item.pins) page || (get_or s.resident page false && is_in_snapshot item.snapshot (installed_at page))) ≡ true
+        → (is_among (pinned_pages item.pins) page ||
+            (get_or s.resident page false && is_in_snapshot item.snapshot (installed_at page))) ≡ true
         → is_pinned s page ≡ true
     shown n f item at is h = any-found (pinned_by page) n s.frames f at (is.pins page ∙ h)
 
@@ -177,8 +200,12 @@ is_pinned-counted s installed_at items latest page are is_latest resident = same
         at_item None at is = cc
         at_item (Some item) at is =
             let found = frame-of s.resident installed_at s.frames items top.0.0 item are at (λ none pins. cc) in
-            let in_it : is_in_snapshot item.snapshot (installed_at page) ≡ true = ap (λ c. is_in_snapshot c (installed_at page)) is ∙ h in
-            shown top.0.0 found.0 item found.1 found.2 (or-right (is_among (pinned_pages item.pins) page) (get_or s.resident page false && is_in_snapshot item.snapshot (installed_at page)) (ap (λ b. b && is_in_snapshot item.snapshot (installed_at page)) resident ∙ in_it))
+            let in_it : is_in_snapshot item.snapshot (installed_at page) ≡ true =
+                ap (λ c. is_in_snapshot c (installed_at page)) is ∙ h in
+            shown top.0.0 found.0 item found.1 found.2
+                (or-right (is_among (pinned_pages item.pins) page)
+                (get_or s.resident page false && is_in_snapshot item.snapshot (installed_at page))
+                (ap (λ b. b && is_in_snapshot item.snapshot (installed_at page)) resident ∙ in_it))
 
     back : (nat_lt 0 (pin_count items page) || is_in_snapshot latest (installed_at page)) ≡ true
         → is_pinned s page ≡ true
@@ -186,9 +213,15 @@ is_pinned-counted s installed_at items latest page are is_latest resident = same
         (λ count.
         let some : 0 < pin_count items page = grind (arith, nat_tests) in
         let item = pin_count-some items page are.ordered some in
-        let found = frame-of s.resident installed_at s.frames items item.0 item.1 are item.2 (λ none pins. let zero_times : counted page item.1 ≡ 0 = ap (λ (p : PinLists). times (pinned_pages p) page) pins in omega (arith, zero_times, item.3)) in
+        let found =
+            frame-of s.resident installed_at s.frames items item.0 item.1 are item.2
+            (λ none pins. let zero_times : counted page item.1 ≡ 0 =
+            ap (λ (p : PinLists). times (pinned_pages p) page) pins in omega (arith, zero_times, item.3)) in
         let pos : nat_lt 0 (counted page item.1) ≡ true = let more = item.3 in grind (arith, nat_tests) in
-        shown item.0 found.0 item.1 found.1 found.2 (or-left (is_among (pinned_pages item.1.pins) page) (get_or s.resident page false && is_in_snapshot item.1.snapshot (installed_at page)) (among-times (pinned_pages item.1.pins) page ∙ pos)))
+        shown item.0 found.0 item.1 found.1 found.2
+            (or-left (is_among (pinned_pages item.1.pins) page)
+            (get_or s.resident page false && is_in_snapshot item.1.snapshot (installed_at page))
+            (among-times (pinned_pages item.1.pins) page ∙ pos)))
         (λ covers. by_snapshot latest is_latest covers)
         (or-cases (nat_lt 0 (pin_count items page)) (is_in_snapshot latest (installed_at page)) h)
 
@@ -198,7 +231,8 @@ abbrev IsTold : List Bool → (ℕ → ℕ) → (Frame → Bool) → (Option Fra
 IsTold resident installed_at test answer =
     ((f : Frame) (item : FrameItem) → IsFrameItem resident installed_at f item → test f ≡ answer (Some item))
 
-told : (resident : List Bool) (installed_at : ℕ → ℕ) (test : Frame → Bool) (answer : Option FrameItem → Bool) (f : Option Frame) (o : Option FrameItem)
+told : (resident : List Bool) (installed_at : ℕ → ℕ) (test : Frame → Bool) (answer : Option FrameItem → Bool)
+    (f : Option Frame) (o : Option FrameItem)
     → IsItemOf resident installed_at f o → IsTold resident installed_at test answer → answer None ≡ false
     → ((item : FrameItem) → IsItemOf resident installed_at None (Some item) → answer (Some item) ≡ false)
     → passes test f ≡ answer o
@@ -211,7 +245,8 @@ pub owns-item : (s : State) (installed_at : ℕ → ℕ) (items : List (ℕ × F
     → AreFrames s.resident installed_at s.frames items → owns s by n ≡ is_owned by (item_in items n)
 owns-item s installed_at items by n are =
     any-numbered (λ f. f.owner == by) n s.frames are.distinct
-    ∙ told s.resident installed_at (λ f. f.owner == by) (is_owned by) (frame_at n s.frames) (item_in items n) (are.items n)
+    ∙ told s.resident installed_at (λ f. f.owner == by) (is_owned by) (frame_at n s.frames) (item_in items n)
+        (are.items n)
     (λ f item is. sym (rw is.live (ap (λ owner. owner == by) is.owner)))
     refl
     (λ item is. rw is.ended refl)

@@ -1,9 +1,15 @@
 -- The list of snapshots: its last one is the latest, a stale last one can go, and a new one comes after all.
-use Rattle.std.proofs.Common.{◌≡◌, ℕ, zero, suc, ◌-◌, ◌<◌, ◌≤◌, ◌==◌, List, [], ◌∷◌, ◌++◌, Bool, true, false, cond, ◌&&◌, ⊎_elim, Option, Some, None, length, take, refl, sym, ap, ◌∙◌, subst, arith, eq-eqb}
+use Rattle.std.proofs.Common.{
+  ◌≡◌, ℕ, zero, suc, ◌-◌, ◌<◌, ◌≤◌, ◌==◌, List, [], ◌∷◌, ◌++◌, Bool, true, false, cond, ◌&&◌, ⊎_elim, Option, Some,
+  None, length, take, refl, sym, ap, ◌∙◌, subst, arith, eq-eqb,
+}
 use Rattle.std.specs.List.{AllByRecursion, slice_get}
 use Rattle.pool_rules.proofs.Tests.{and-both, or-cases, or-left, or-right, same-eqb}
 use Rattle.std.specs.Option.{option_map}
-use Rattle.pool_tables.specs.FrameItems.{IsLatest, PutsItem, asked_item, ended_item, installed_item, item_in, narrowed_item, pinned_item, settled_item, snapshot_in}
+use Rattle.pool_tables.specs.FrameItems.{
+  IsLatest, PutsItem, asked_item, ended_item, installed_item, item_in, narrowed_item, pinned_item, settled_item,
+  snapshot_in,
+}
 use Rattle.pool_tables.specs.PinLists.{PinLists}
 use Rattle.pool_tables.specs.declared.page_record.MakerId.{MakerId}
 use Rattle.pool_tables.specs.Internal.SnapshotList.{AreAscending, AreListed, IsCurrent, IsSnapshotList, is_listed}
@@ -41,13 +47,16 @@ listed-last [] n c s up listed at = cc
 listed-last (x ∷ []) n c s up listed at =
     let same : x ≡ s = cc in
     ⊎_elim
-    (λ here. let count = same-eqb x.count c (and-both (x.frame == n) (x.count == c) here).1 in let same_count : x.count ≡ s.count = ap (λ (t : Snapshot). t.count) same in omega (arith, count, same_count))
+    (λ here. let count = same-eqb x.count c (and-both (x.frame == n) (x.count == c) here).1 in let same_count : x.count
+        ≡ s.count = ap (λ (t : Snapshot). t.count) same in omega (arith, count, same_count))
     (λ later. cc)
     (or-cases (is_of n c x) false listed)
 listed-last (x ∷ y ∷ rest) n c s up listed at =
     let at_rest = sym (last-cons x y rest) ∙ at in
     ⊎_elim
-    (λ here. let count = same-eqb x.count c (and-both (x.frame == n) (x.count == c) here).1 in let less = all-get (λ (t : Snapshot). x.count < t.count) (y ∷ rest) (length (y ∷ rest) - 1) s up.0 at_rest in omega (arith, count, less))
+    (λ here. let count = same-eqb x.count c (and-both (x.frame == n) (x.count == c) here).1 in let less =
+        all-get (λ (t : Snapshot). x.count < t.count) (y ∷ rest) (length (y ∷ rest) - 1) s up.0 at_rest in omega
+        (arith, count, less))
     (λ later. listed-last (y ∷ rest) n c s up.1 later at_rest)
     (or-cases (is_of n c x) (is_listed (y ∷ rest) n c) listed)
 
@@ -57,12 +66,14 @@ listed-front : (xs : List Snapshot) (n c : ℕ) (s : Snapshot) → is_listed xs 
 listed-front [] n c s listed at other = cc
 listed-front (x ∷ []) n c s listed at other =
     let same : x ≡ s = cc in
-    ⊎_elim (λ here. let yes : is_of n c s ≡ true = subst (λ t. is_of n c t ≡ true) same here in cc) (λ later. cc) (or-cases (is_of n c x) false listed)
+    ⊎_elim (λ here. let yes : is_of n c s ≡ true = subst (λ t. is_of n c t ≡ true) same here in cc) (λ later. cc)
+        (or-cases (is_of n c x) false listed)
 listed-front (x ∷ y ∷ rest) n c s listed at other =
     let before = take (length (y ∷ rest) - 1) (y ∷ rest) in
     let there : is_listed (x ∷ before) n c ≡ true = ⊎_elim
     (λ here. or-left (is_of n c x) (is_listed before n c) here)
-    (λ later. or-right (is_of n c x) (is_listed before n c) (listed-front (y ∷ rest) n c s later (sym (last-cons x y rest) ∙ at) other))
+    (λ later. or-right (is_of n c x) (is_listed before n c)
+        (listed-front (y ∷ rest) n c s later (sym (last-cons x y rest) ∙ at) other))
     (or-cases (is_of n c x) (is_listed (y ∷ rest) n c) listed) in
     ap (λ ys. is_listed ys n c) (front-cons x y rest) ∙ there
 
@@ -181,10 +192,14 @@ pub IsSnapshotList-push : (frame count : ℕ) (item : FrameItem) (old new : List
     → IsSnapshotList new (xs ++ record { count = count; frame = frame } ∷ [])
 IsSnapshotList-push frame count item old new xs puts has later list =
     let s : Snapshot = record { count = count; frame = frame } in
-    let here : snapshot_in (item_in new frame) ≡ Some count = ap snapshot_in (puts.items frame ∙ ap (λ b. cond b (Some item) (item_in old frame)) (eq-eqb frame frame refl)) ∙ has in
+    let here : snapshot_in (item_in new frame) ≡ Some count =
+        ap snapshot_in (puts.items frame ∙ ap (λ b. cond b (Some item) (item_in old frame)) (eq-eqb frame frame refl)) ∙
+        has in
     record {
       all = record {
-        ascending = AreAscending-push xs s list.all.ascending (below-last xs count list.all.ascending (λ t at. later t.frame t.count (list.last t at)));
+        ascending =
+            AreAscending-push xs s list.all.ascending
+            (below-last xs count list.all.ascending (λ t at. later t.frame t.count (list.last t at)));
         listed = λ n c at. pick n c (frame == n) refl at;
       };
       last = λ t at.
@@ -196,12 +211,16 @@ IsSnapshotList-push frame count item old new xs puts has later list =
         → is_listed (xs ++ record { count = count; frame = frame } ∷ []) n c ≡ true
     pick n c true e at =
         let same = same-eqb frame n e in
-        let is : snapshot_in (item_in new n) ≡ Some count = ap snapshot_in (puts.items n ∙ ap (λ b. cond b (Some item) (item_in old n)) e) ∙ has in
+        let is : snapshot_in (item_in new n) ≡ Some count =
+            ap snapshot_in (puts.items n ∙ ap (λ b. cond b (Some item) (item_in old n)) e) ∙ has in
         let same_count : count ≡ c = cc in
         let new_one = listed-new xs (record { count = count; frame = frame }) in
-        subst (λ m. is_listed (xs ++ record { count = count; frame = frame } ∷ []) m c ≡ true) same (subst (λ k. is_listed (xs ++ record { count = count; frame = frame } ∷ []) frame k ≡ true) same_count new_one)
+        subst (λ m. is_listed (xs ++ record { count = count; frame = frame } ∷ []) m c ≡ true) same
+            (subst (λ k. is_listed (xs ++ record { count = count; frame = frame } ∷ []) frame k ≡ true) same_count
+            new_one)
     pick n c false e at =
-        let was : snapshot_in (item_in old n) ≡ Some c = sym (ap snapshot_in (puts.items n ∙ ap (λ b. cond b (Some item) (item_in old n)) e)) ∙ at in
+        let was : snapshot_in (item_in old n) ≡ Some c =
+            sym (ap snapshot_in (puts.items n ∙ ap (λ b. cond b (Some item) (item_in old n)) e)) ∙ at in
         listed-push xs (record { count = count; frame = frame }) n c (list.all.listed n c was)
 
 -- the last one is the latest

@@ -1,6 +1,9 @@
 -- What a change of one frame's item does to the counts that tell which wants are over, and to the wants that its
 -- frame waits by.
-use Rattle.std.proofs.Common.{◌≡◌, ◌≢◌, ℕ, ◌+◌, ◌≤◌, ◌==◌, nat_le, List, [], ◌∷◌, true, not, cond, ◌&&◌, ⊎_elim, Option, Some, None, refl, sym, ap, ◌∙◌, subst, arith, eq-eqb}
+use Rattle.std.proofs.Common.{
+  ◌≡◌, ◌≢◌, ℕ, ◌+◌, ◌≤◌, ◌==◌, nat_le, List, [], ◌∷◌, true, not, cond, ◌&&◌, ⊎_elim, Option, Some, None, refl, sym, ap,
+  ◌∙◌, subst, arith, eq-eqb,
+}
 use Rattle.std.proofs.lemmas.Bool.{cases_eq}
 use Rattle.std.proofs.lemmas.Bool.Decides.{nat_tests}
 use Rattle.std.specs.List.{AllByRecursion}
@@ -31,11 +34,13 @@ item-other frame item old new n other puts =
     puts.items n ∙ ap (λ b. cond b item (item_in old n)) (ne-eqb frame n (λ e. other (sym e)))
 
 -- what all frames keep, if the frame keeps it
-item-kept : {X : Type 0} (part : Option FrameItem → X) (frame : ℕ) (item : Option FrameItem) (old new : List (ℕ × FrameItem))
+item-kept : {X : Type 0} (part : Option FrameItem → X) (frame : ℕ) (item : Option FrameItem)
+    (old new : List (ℕ × FrameItem))
     → PutsItem frame item old new → part item ≡ part (item_in old frame) → (n : ℕ)
     → part (item_in new n) ≡ part (item_in old n)
 item-kept part frame item old new puts kept n = ⊎_elim
-    (λ same. ap (λ m. part (item_in new m)) same ∙ (ap part (item-own frame item old new puts) ∙ (kept ∙ ap (λ m. part (item_in old m)) (sym same))))
+    (λ same. ap (λ m. part (item_in new m)) same ∙
+        (ap part (item-own frame item old new puts) ∙ (kept ∙ ap (λ m. part (item_in old m)) (sym same))))
     (λ other. ap part (item-other frame item old new n other puts))
     (cases_eq n frame)
 
@@ -117,15 +122,18 @@ IsTimelyTable-put entries old new frame item timely puts here last = record {
 -- a change of one frame's item keeps what is said of all wants, if it keeps it for the frame's
 pub IsWaited-put : (frame : ℕ) (item : Option FrameItem) (old new : FrameItems) (w : QueuedWant)
     → PutsItem frame item old.items new.items → IsWaited old w
-    → (w.frame.0 ≡ frame → (i : FrameItem) → item ≡ Some i → i.ended_at ≡ None → w.settled ≡ true → w.made_at ≡ i.asked_at → is_among i.pins.missing w.page ≡ true)
+    → (w.frame.0 ≡ frame → (i : FrameItem) → item ≡ Some i → i.ended_at ≡ None → w.settled ≡ true →
+        w.made_at ≡ i.asked_at → is_among i.pins.missing w.page ≡ true)
     → IsWaited new w
 IsWaited-put frame item old new w puts was own = λ i at live settled made. ⊎_elim
-    (λ same. own same i (sym (ap (item_of new) same ∙ item-own frame item old.items new.items puts) ∙ at) live settled made)
+    (λ same. own same i (sym (ap (item_of new) same ∙ item-own frame item old.items new.items puts) ∙ at) live settled
+        made)
     (λ other. was i (sym (item-other frame item old.items new.items w.frame.0 other puts) ∙ at) live settled made)
     (cases_eq w.frame.0 frame)
 
 -- a live frame waits only for missing pages of its last Settle
-pub waits-missing : (entries : ℕ) (records : List PageRecord) (table : FrameItems) (list : List QueuedWant) (n page : ℕ) (item : FrameItem)
+pub waits-missing : (entries : ℕ) (records : List PageRecord) (table : FrameItems) (list : List QueuedWant) (n page : ℕ)
+    (item : FrameItem)
     → AllByRecursion (IsTimelyWant entries (counts_in records table)) list → AllByRecursion (IsWaited table) list
     → item_of table n ≡ Some item → item.ended_at ≡ None
     → waits_for (standing (counts_in records table) list) n page ≡ true → is_among item.pins.missing page ≡ true
@@ -141,11 +149,14 @@ waits-missing entries records table (w ∷ list) n page item timely waited at li
     let same_page = same-eqb w.page page of_page.0 in
     let at_own : item_of table w.frame.0 ≡ Some item = ap (item_of table) frame ∙ at in
     let asked : asked_in (item_of table w.frame.0) ≡ item.asked_at = ap asked_in at_own in
-    let not_before : item.asked_at ≤ w.made_at = below (counts.load_ended_at w.page) (asked_in (item_of table w.frame.0)) w.made_at item.asked_at (ended_in (item_of table w.frame.0)) table.last_asked asked inner.0 in
+    let not_before : item.asked_at ≤ w.made_at =
+        below (counts.load_ended_at w.page) (asked_in (item_of table w.frame.0)) w.made_at item.asked_at
+        (ended_in (item_of table w.frame.0)) table.last_asked asked inner.0 in
     let made : w.made_at ≡ item.asked_at = omega (arith, timely.0.asked, asked, not_before) in
     subst (λ p. is_among item.pins.missing p ≡ true) same_page (waited.0 item at_own live of_page.1 made))
     (λ later. waits-missing entries records table list n page item timely.1 waited.1 at live later)
-    (or-cases (is_waiting counts page w && (w.frame.0 == n)) (waits_for (standing counts list) n page) (sym (waits-cons counts w list n page) ∙ waits))
+    (or-cases (is_waiting counts page w && (w.frame.0 == n)) (waits_for (standing counts list) n page)
+        (sym (waits-cons counts w list n page) ∙ waits))
   where
     below : (load asked made at : ℕ) (ended : Option ℕ) (last : ℕ) → asked ≡ at
         → (nat_le load made && (nat_le asked made && not (is_before ended last))) ≡ true → at ≤ made

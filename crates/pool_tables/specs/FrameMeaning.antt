@@ -1,5 +1,8 @@
 -- When the table of frames says what the state says of its live frames.
-use Rattle.std.specs.Prelude.{◌≡◌, ◌==◌, ◌&&◌, ◌||◌, ◌≤◌, ℕ, Bool, true, false, List, [], ◌∷◌, length, find, Option, None, Some, is_some, slice_index_or}
+use Rattle.std.specs.Prelude.{
+  ◌≡◌, ◌==◌, ◌&&◌, ◌||◌, ◌≤◌, ℕ, Bool, true, false, List, [], ◌∷◌, length, find, Option, None, Some, is_some,
+  slice_index_or,
+}
 use Rattle.std.specs.List.{list_any}
 use Rattle.std.specs.List.Sorted.{IsStrictlySortedBy}
 use Rattle.std.specs.Map.{keys_of}
@@ -57,7 +60,8 @@ AreDistinct [] = Unit {0}
 AreDistinct (f ∷ frames) = (has_number f.number frames ≡ false) × AreDistinct frames
 
 -- the items are those of the live frames and of frames that ended
-pub record AreFrames (resident : List Bool) (installed_at : ℕ → ℕ) (frames : List Frame) (table : List (ℕ × FrameItem)) : Type 0 where
+pub record AreFrames (resident : List Bool) (installed_at : ℕ → ℕ) (frames : List Frame)
+    (table : List (ℕ × FrameItem)) : Type 0 where
   pub distinct : AreDistinct frames
   pub ordered : IsStrictlySortedBy nat_cmp (keys_of table)
   pub items : (number : ℕ) → IsItemOf resident installed_at (frame_at number frames) (item_in table number)

@@ -1,5 +1,7 @@
 -- A list has at most one least legal collapse, and is simplified to at most one state.
-use Rattle.std.proofs.Common.{◌≡◌, inl, inr, ℕ, false, List, [], ◌∷◌, length, Ordering, refl, sym, ap, ◌∙◌, subst, arith}
+use Rattle.std.proofs.Common.{
+  ◌≡◌, inl, inr, ℕ, false, List, [], ◌∷◌, length, Ordering, refl, sym, ap, ◌∙◌, subst, arith,
+}
 use Rattle.std.proofs.lemmas.Cmp.{nat_cmp_total, on_total, then_total}
 use Rattle.std.specs.Cmp.{IsTotalOrder}
 use Rattle.std.specs.Ordering.{is_eq, is_lt, ordering_reverse, ordering_then}
@@ -87,4 +89,5 @@ one_end locked n (c ∷ cs) (d ∷ ds) state end other lead by_other is_end othe
 pub one_simplification : (tris : List Tagged) (locked : List Pt) (kept others : List Kept) →
     IsSimplified tris locked kept → IsSimplified tris locked others → kept ≡ others
 one_simplification tris locked kept others one other =
-    one_end locked (length tris) one.collapses other.collapses (begun tris) kept others one.lead other.lead one.end other.end
+    one_end locked (length tris) one.collapses other.collapses
+        (begun tris) kept others one.lead other.lead one.end other.end

@@ -76,7 +76,8 @@ normal-turned = refl
 -- the middle alone may move, to each corner
 pub legal_of-square : legal_of (present (begun square)) corners (pairs (middle ∷ corners)) ≡
     (middle, p) ∷ (middle, q) ∷ (middle, r) ∷ (middle, s) ∷ []
-unfolding has_edge is_legal keeps_facing has_corner same_point has_distinct_corners replaced replaced_point normal cross dot minus
+unfolding has_edge is_legal keeps_facing has_corner same_point has_distinct_corners replaced replaced_point normal cross
+    dot minus
 legal_of-square = refl
 
 -- costs and distances are equal, so the least target decides
@@ -100,7 +101,8 @@ moved_of-square = refl
 -- nothing locked: any corner may move to any other, since that leaves the triangle out
 pub legal_of-one : legal_of (tri p q s ∷ []) [] (pairs (p ∷ q ∷ s ∷ [])) ≡
     (p, q) ∷ (p, s) ∷ (q, p) ∷ (q, s) ∷ (s, p) ∷ (s, q) ∷ []
-unfolding has_edge is_legal keeps_facing has_corner same_point has_distinct_corners replaced replaced_point normal cross dot minus
+unfolding has_edge is_legal keeps_facing has_corner same_point has_distinct_corners replaced replaced_point normal cross
+    dot minus
 legal_of-one = refl
 
 pub after-one : after p s (begun (from_source 7 (tri p q s) ∷ [])) ≡ []
@@ -109,7 +111,8 @@ after-one = refl
 
 -- three corners locked: no collapse
 pub legal_of-locked : legal_of (tri p q s ∷ []) corners (pairs (p ∷ q ∷ s ∷ [])) ≡ []
-unfolding has_edge is_legal keeps_facing has_corner same_point has_distinct_corners replaced replaced_point normal cross dot minus
+unfolding has_edge is_legal keeps_facing has_corner same_point has_distinct_corners replaced replaced_point normal cross
+    dot minus
 legal_of-locked = refl
 
 -- ---- a collapse that would turn a triangle over
@@ -147,7 +150,8 @@ turns_over = refl
 
 -- so it is passed by, and the one to the dent is done
 pub firsts_of-legal : firsts_of dented (legal_of dented [] targets) ≡ (inside, dent) ∷ []
-unfolding key_of cost distance has_edge is_legal keeps_facing has_corner same_point has_distinct_corners replaced replaced_point normal cross dot minus
+unfolding key_of cost distance has_edge is_legal keeps_facing has_corner same_point has_distinct_corners replaced
+    replaced_point normal cross dot minus
 firsts_of-legal = refl
 
 -- ---- costs

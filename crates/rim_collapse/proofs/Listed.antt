@@ -1,5 +1,8 @@
 -- The facets that are listed of a list of triangles, and candidates among them.
-use Rattle.std.proofs.Common.{◌≡◌, ℕ, ◌^◌, ◌≤◌, Bool, true, false, ◌&&◌, ◌||◌, ℤ, ◌-ℤ◌, ◌*ℤ◌, unsigned_abs, List, [], ◌∷◌, map, length, All, Contains, if◌then◌else◌, refl, ap, ◌∙◌, arith}
+use Rattle.std.proofs.Common.{
+  ◌≡◌, ℕ, ◌^◌, ◌≤◌, Bool, true, false, ◌&&◌, ◌||◌, ℤ, ◌-ℤ◌, ◌*ℤ◌, unsigned_abs, List, [], ◌∷◌, map, length, All,
+  Contains, if◌then◌else◌, refl, ap, ◌∙◌, arith,
+}
 use Rattle.std.specs.List.{list_any}
 use Rattle.std.proofs.lemmas.Bool.{and_parts}
 use Rattle.std.proofs.lemmas.Bool.Decides.{nat_tests}
@@ -11,7 +14,9 @@ use Rattle.geom_core.specs.declared.triangles.Tri.{Tri}
 use Rattle.geom_core.specs.Corners.{has_corner}
 use Rattle.geom_core.specs.Distance.{distance}
 use Rattle.geom_core.specs.EdgeSum.{same_point}
-use Rattle.geom_core.specs.Limits.{is_grid_coordinate, IsGridCoordinate, is_grid_point, IsGridPoint, HasGridCorners, IsGridTriangle}
+use Rattle.geom_core.specs.Limits.{
+  is_grid_coordinate, IsGridCoordinate, is_grid_point, IsGridPoint, HasGridCorners, IsGridTriangle,
+}
 use Rattle.geom_core.proofs.SizeLaws.{size-mul, size-sub}
 use Rattle.rim_collapse.specs.declared.facets.Facet.{Facet}
 use Rattle.rim_collapse.specs.declared.vectors.Vector.{Vector}
@@ -66,7 +71,8 @@ normal-size t corners =
     cross-size (minus t.b t.a) (minus t.c t.a) (minus-size t.b t.a first.1 first.0)
     (minus-size t.c t.a front.1 first.0)
 
-pub facets-listed : (a : Pt) (tris : List Tri) → All IsGridTriangle tris → All (IsFacet a) (map facet_of (around a tris))
+pub facets-listed : (a : Pt) (tris : List Tri) → All IsGridTriangle tris →
+    All (IsFacet a) (map facet_of (around a tris))
 facets-listed a tris all = All-map (IsFacet a) facet_of (around a tris) (λ k d in_list. each _
     (filter_passes (has_corner a) tris k d in_list) (All-filter (has_corner a) IsGridTriangle tris all k d in_list))
   where

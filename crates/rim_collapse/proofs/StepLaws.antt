@@ -1,11 +1,16 @@
 -- The next collapse among those of all points, and the state after it.
-use Rattle.std.proofs.Common.{◌≡◌, inr, ℕ, ◌+◌, ◌*◌, ◌<◌, ◌≤◌, Bool, true, false, not, ◌&&◌, if◌then◌else◌, List, [], ◌∷◌, ◌++◌, flat_map, max, Ordering, take, length, get_or, All, Any, Contains, IsTrue, Option, Some, None, refl, sym, ap, ◌∙◌, subst, arith}
+use Rattle.std.proofs.Common.{
+  ◌≡◌, inr, ℕ, ◌+◌, ◌*◌, ◌<◌, ◌≤◌, Bool, true, false, not, ◌&&◌, if◌then◌else◌, List, [], ◌∷◌, ◌++◌, flat_map, max,
+  Ordering, take, length, get_or, All, Any, Contains, IsTrue, Option, Some, None, refl, sym, ap, ◌∙◌, subst, arith,
+}
 use Prim.Native.Nat.{zero, suc}
 use Rattle.std.specs.List.{list_any}
 use Rattle.std.specs.Ordering.{is_eq, is_lt, ordering_reverse}
 use Rattle.std.specs.declared.cmp.Ordering.TheVariants.{Less, Equal, Greater}
 use Rattle.std.proofs.lemmas.Bool.{and_parts}
-use Rattle.std.proofs.lemmas.List.Elements.{All-contains, All-more, All-weaker, Contains-append_left, Contains-append_right}
+use Rattle.std.proofs.lemmas.List.Elements.{
+  All-contains, All-more, All-weaker, Contains-append_left, Contains-append_right,
+}
 use Rattle.std.proofs.lemmas.List.{get_or_default, take_more}
 use Rattle.std.proofs.lemmas.List.Folds.{Any-from_list_any}
 use Rattle.std.proofs.lemmas.List.Sorted.{ranks_by}
@@ -47,7 +52,8 @@ key-source tris a b k is = ap (λ (l : Key). l.from) is
 -- a collapse of one point, beside those of the points before it
 among-first : (tris : List Tri) (locked : List Pt) (points : List Pt) (p : Pt) (l : Key) →
     IsBestAt tris locked p (Some l) →
-    All (λ r. (q : Pt) → is_legal_collapse tris locked r q ≡ true → is_lt (key_cmp (key_of tris r q) l) ≡ false) points →
+    All (λ r. (q : Pt) → is_legal_collapse tris locked r q ≡ true → is_lt (key_cmp (key_of tris r q) l) ≡ false)
+    points →
     IsBestAmong tris locked points (Some l)
 among-first tris locked points p l best others =
     let from : l.from ≡ p = key-source tris p l.to l best.0 in (

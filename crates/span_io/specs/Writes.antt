@@ -6,7 +6,8 @@ use Rattle.span_io.specs.Faults.{Rose}
 use Rattle.span_io.specs.Puts.{Appended}
 
 -- the first n bytes were appended, so the sink is not flushed; no fault was counted
-pub record TookBytes (written new_written : Option (List ℕ)) (new_flushed : Bool) (faults new_faults : ℕ) (from : List ℕ) (n : ℕ) : Type 0 where
+pub record TookBytes (written new_written : Option (List ℕ)) (new_flushed : Bool) (faults new_faults : ℕ)
+    (from : List ℕ) (n : ℕ) : Type 0 where
   pub some_byte : 1 ≤ n
   pub within : n ≤ length from
   pub appended : Appended written new_written (take n from)
@@ -14,7 +15,8 @@ pub record TookBytes (written new_written : Option (List ℕ)) (new_flushed : Bo
   pub no_fault : new_faults ≡ faults
 
 -- a fault was counted, and the rest stays
-pub record Refused (written new_written : Option (List ℕ)) (flushed new_flushed : Bool) (faults new_faults : ℕ) : Type 0 where
+pub record Refused (written new_written : Option (List ℕ)) (flushed new_flushed : Bool)
+    (faults new_faults : ℕ) : Type 0 where
   pub rose : Rose faults new_faults
   pub stays : new_written ≡ written
   pub flushed_stays : new_flushed ≡ flushed

@@ -12,7 +12,8 @@ use Rattle.geode_tool.specs.Inputs.{Inputs}
 use Rattle.geode_tool.specs.Verdicts.{Answers}
 
 -- what such a fault says of the known input, of how far it was read, and of its count of failures
-pub record StopsUnwritten (command : Command) (before after : Inputs) (faults new_faults : ℕ) (fault : Fault) : Type 0 where
+pub record StopsUnwritten (command : Command) (before after : Inputs) (faults new_faults : ℕ)
+    (fault : Fault) : Type 0 where
   pub answered : Answers IsOutside (verdict_of command before) (Err fault)
   pub may_return : MayReturn command fault
   pub cause : fault ≡ ReadFault → Rose faults new_faults

@@ -1,5 +1,7 @@
 -- What reads showed of a file: bytes at a place, or that the file ends; and what it decides.
-use Rattle.std.specs.Prelude.{◌≡◌, ◌≤◌, ◌<◌, ◌+◌, ◌*◌, ℕ, List, length, take, drop, Option, Some, IfSome, Result, Ok, Err}
+use Rattle.std.specs.Prelude.{
+  ◌≡◌, ◌≤◌, ◌<◌, ◌+◌, ◌*◌, ℕ, List, length, take, drop, Option, Some, IfSome, Result, Ok, Err,
+}
 use Rattle.geom_core.specs.declared.limits.TheConstants.{PAGE_BYTES}
 use Rattle.dag_core.specs.declared.heads.Heads.{Heads}
 use Rattle.dag_core.specs.Ranges.{counts_of}
@@ -44,14 +46,16 @@ JudgedTo answer Memory = Unit {0}
 JudgedTo answer fault = answer ≡ Err fault
 
 -- why a page, whose text a buffer would have, wasn't opened
-abbrev pub PageRefused : {X : Type 0} → Option (List ℕ) → ℕ → (List ℕ → Result X OpenFault) → List ℕ → ℕ → ℕ → OpenFault → Type 0
+abbrev pub PageRefused : {X : Type 0} → Option (List ℕ) → ℕ → (List ℕ → Result X OpenFault) → List ℕ → ℕ → ℕ →
+    OpenFault → Type 0
 PageRefused known at judge text faults new_faults (Truncated count) = EndsWithin known at PAGE_BYTES count
 PageRefused known at judge text faults new_faults PageFault = Rose faults new_faults
 PageRefused known at judge text faults new_faults Memory = Unit {0}
 PageRefused known at judge text faults new_faults fault = IfSome known (StandsAt at text) × (judge text ≡ Err fault)
 
 -- the first `len` bytes of the file, which decide what a step found
-pub record Decides {X : Type 0} (known : Option (List ℕ)) (step : List ℕ → Result X OpenFault) (found : X) (len : ℕ) : Type 0 where
+pub record Decides {X : Type 0} (known : Option (List ℕ)) (step : List ℕ → Result X OpenFault) (found : X)
+    (len : ℕ) : Type 0 where
   pub seen : List ℕ
   pub size : length seen ≡ len
   pub told : IfSome known (StandsAt 0 seen)
@@ -62,10 +66,12 @@ pub record DecidesPages (known : Option (List ℕ)) (directory : Directory) (n :
   pub seen : List ℕ
   pub size : length seen ≡ PAGE_BYTES * n
   pub told : IfSome known (StandsAt (page_at (counts_of directory.heads) 0) seen)
-  pub answer : (bytes : List ℕ) → StandsAt (page_at (counts_of directory.heads) 0) seen bytes → pages_opened directory n bytes ≡ Ok pages
+  pub answer : (bytes : List ℕ) → StandsAt (page_at (counts_of directory.heads) 0) seen bytes →
+      pages_opened directory n bytes ≡ Ok pages
 
 -- the bytes from a place on, all of them, which decide a step's answer: those that are told, or some
-pub record Answers {X : Type 0} (known : Option (List ℕ)) (at : ℕ) (step : List ℕ → Result X OpenFault) (found : Result X OpenFault) : Type 0 where
+pub record Answers {X : Type 0} (known : Option (List ℕ)) (at : ℕ) (step : List ℕ → Result X OpenFault)
+    (found : Result X OpenFault) : Type 0 where
   pub rest : List ℕ
   pub told : IfSome known (λ bytes. drop at bytes ≡ rest)
   pub answer : (bytes : List ℕ) → at ≤ length bytes → drop at bytes ≡ rest → step bytes ≡ found

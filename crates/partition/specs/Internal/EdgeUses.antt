@@ -1,6 +1,9 @@
 -- Edge uses: the edges of items without their direction, each with the rank of the item that it belongs to, and
 -- with a key.
-use Rattle.std.specs.Prelude.{◌≡◌, ℕ, ◌+◌, ◌-◌, ◌≤◌, ◌<◌, Bool, true, not, ◌&&◌, ◌||◌, ◌==◌, pos, List, [], ◌∷◌, ◌++◌, length, map, filter, slice_index_or, if◌then◌else◌}
+use Rattle.std.specs.Prelude.{
+  ◌≡◌, ℕ, ◌+◌, ◌-◌, ◌≤◌, ◌<◌, Bool, true, not, ◌&&◌, ◌||◌, ◌==◌, pos, List, [], ◌∷◌, ◌++◌, length, map, filter,
+  slice_index_or, if◌then◌else◌,
+}
 use Rattle.std.specs.List.{list_any, range_with_len}
 use Rattle.std.specs.Ordering.{is_le}
 use Rattle.geom_core.specs.declared.points.Pt.{Pt}
@@ -55,7 +58,9 @@ are_adjacent_in uses i j = list_any (λ s. s.rank == i && list_any (λ t. t.rank
 
 -- an edge use that no rule asks for, at the origin
 abbrev pub no_use : EdgeUse
-no_use = let origin : Pt = record { x = pos 0; y = pos 0; z = pos 0 } in record { key = 0; edge = record { u = origin; v = origin }; rank = 0 }
+no_use =
+    let origin : Pt = record { x = pos 0; y = pos 0; z = pos 0 } in record
+    { key = 0; edge = record { u = origin; v = origin }; rank = 0 }
 
 -- the edge use at this place, if there is one
 abbrev pub use_at : List EdgeUse → ℕ → EdgeUse

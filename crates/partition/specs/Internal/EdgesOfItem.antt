@@ -1,5 +1,7 @@
 -- Which shared edges an item has: for each item a chain of its edges, from the last one back.
-use Rattle.std.specs.Prelude.{◌≡◌, ◌≢◌, ◌<◌, ◌⊎◌, ℕ, List, [], Option, Some, None, length, slice_index, slice_index_or, Contains}
+use Rattle.std.specs.Prelude.{
+  ◌≡◌, ◌≢◌, ◌<◌, ◌⊎◌, ℕ, List, [], Option, Some, None, length, slice_index, slice_index_or, Contains,
+}
 use Rattle.partition.specs.declared.edges_of_item.ItemEdge.{ItemEdge}
 use Rattle.partition.specs.declared.edges_of_item.EdgesOfItem.{EdgesOfItem}
 
@@ -12,7 +14,8 @@ IsLastBefore items item end (Some p) =
 -- the item has the shared edge: some entry of the item names the edge
 abbrev pub HasItemEdge : List ℕ → List ItemEdge → ℕ → ℕ → Type 0
 HasItemEdge items item_edges item edge =
-    (p : ℕ) × (p < length items) × (slice_index items p ≡ item) × ((d : ItemEdge) → (slice_index_or item_edges p d).edge ≡ edge)
+    (p : ℕ) × (p < length items) × (slice_index items p ≡ item) ×
+        ((d : ItemEdge) → (slice_index_or item_edges p d).edge ≡ edge)
 
 -- the shared edge of this number has the item
 abbrev pub EdgeHasItem : List (List ℕ) → ℕ → ℕ → Type 0
@@ -24,15 +27,18 @@ IsDone end upto edge at = (edge < end) ⊎ ((edge ≡ end) × (at < upto))
 
 -- of the shared edges before `end`, and of the first `upto` items of that one, each item's edges are listed:
 -- `last` has each item's last entry
-pub record ListsEdgesUpTo (shared : List (List ℕ)) (count end upto : ℕ) (last : List (Option ℕ)) (item_edges : List ItemEdge) : Type 0 where
+pub record ListsEdgesUpTo (shared : List (List ℕ)) (count end upto : ℕ) (last : List (Option ℕ))
+    (item_edges : List ItemEdge) : Type 0 where
   pub items : List ℕ
   pub counted : length last ≡ count
   pub whole : length items ≡ length item_edges
   pub lasts : (i : ℕ) → i < count → IsLastBefore items i (length items) (slice_index_or last i None)
   pub previous : (p : ℕ) (d : ItemEdge) → p < length items →
       IsLastBefore items (slice_index items p) p (slice_index_or item_edges p d).previous
-  pub sound : (p : ℕ) (d : ItemEdge) → p < length items → EdgeHasItem shared (slice_index_or item_edges p d).edge (slice_index items p)
-  pub complete : (edge at : ℕ) → edge < length shared → at < length (slice_index_or shared edge []) → IsDone end upto edge at →
+  pub sound : (p : ℕ) (d : ItemEdge) → p < length items →
+      EdgeHasItem shared (slice_index_or item_edges p d).edge (slice_index items p)
+  pub complete : (edge at : ℕ) → edge < length shared → at < length (slice_index_or shared edge []) →
+      IsDone end upto edge at →
       HasItemEdge items item_edges (slice_index (slice_index_or shared edge []) at) edge
 
 -- each item's shared edges are listed

@@ -33,17 +33,20 @@ IsNextLeft placed queue item =
 
 -- The order so far is the one that grows, and the rest says how far it is: which items are placed, below which
 -- item all are, how far each shared edge's cursor may be, and that what is queued touches the present batch.
-pub record Grows (shared : List (List ℕ)) (size : ℕ) (placed : List Bool) (order : List ℕ) (least : ℕ) (cursors queue : List ℕ) : Type 0 where
+pub record Grows (shared : List (List ℕ)) (size : ℕ) (placed : List Bool) (order : List ℕ) (least : ℕ)
+    (cursors queue : List ℕ) : Type 0 where
   pub marks : (item : ℕ) → item < length placed → slice_index_or placed item true ≡ is_in order item
   pub counted : count_by (λ placed. placed) placed ≡ length order
   pub below : IsPlacedBelow placed least
   pub passed : AreCursors shared placed cursors
   pub queued : (item : ℕ) → Contains queue item → Touches shared (batch_of size order) item
-  pub grown : (place : ℕ) → place < length order → is_chosen (length placed) (λ _. 0) (are_adjacent shared) size order place ≡ true
+  pub grown : (place : ℕ) → place < length order →
+      is_chosen (length placed) (λ _. 0) (are_adjacent shared) size order place ≡ true
 
 -- the same of a growth
 abbrev pub IsGrowth : List (List ℕ) → ℕ → Growth → Type 0
-IsGrowth shared size g = Grows shared size g.placed.items g.order.items g.least g.frontier.cursors.items g.frontier.queue
+IsGrowth shared size g =
+    Grows shared size g.placed.items g.order.items g.least g.frontier.cursors.items g.frontier.queue
 
 -- of each shared edge that touches the present batch, the least item that is left is queued
 abbrev pub IsReady : List (List ℕ) → ℕ → Growth → Type 0

@@ -19,7 +19,8 @@ IsCurrent items s = snapshot_in (item_in items s.frame) ≡ Some s.count
 
 pub record AreListed (items : List (ℕ × FrameItem)) (snapshots : List Snapshot) : Type 0 where
   pub ascending : AreAscending snapshots
-  pub listed : (frame count : ℕ) → snapshot_in (item_in items frame) ≡ Some count → is_listed snapshots frame count ≡ true
+  pub listed : (frame count : ℕ) → snapshot_in (item_in items frame) ≡ Some count →
+      is_listed snapshots frame count ≡ true
 
 pub record IsSnapshotList (items : List (ℕ × FrameItem)) (snapshots : List Snapshot) : Type 0 where
   pub all : AreListed items snapshots

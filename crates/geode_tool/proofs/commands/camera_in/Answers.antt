@@ -9,4 +9,5 @@ returns-in_err-numbers_in c =
 pub returns : goal.returns
 returns c =
     c.ok.ensures.value
-    ∙ camera-some c.args.word.now c.in_ok-numbers_in.field-0 c.new.result (sym c.numbers_in.ensures ∙ c.in_ok-numbers_in.was) c.new.ensures.camera c.new.ensures.bad_camera
+    ∙ camera-some c.args.word.now c.in_ok-numbers_in.field-0 c.new.result
+        (sym c.numbers_in.ensures ∙ c.in_ok-numbers_in.was) c.new.ensures.camera c.new.ensures.bad_camera

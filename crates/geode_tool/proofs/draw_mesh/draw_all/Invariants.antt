@@ -9,4 +9,5 @@ invariant-loop-number g l =
     (l.cache.camera ≡ l.request.camera)
     × (g.T.PixelSink.pixels l.to ≡ g.T.PixelSink.pixels l.fn.to)
     × ((rest : g.row.T-Rest.Denot) (before : List (ℕ × ℕ)) → g.T.PixelSink.shows l.fn.to rest before →
-    g.T.PixelSink.shows l.to rest (before ++ flat_map (drawn l.request.camera l.request.size) (items_of (take l.number l.tris))))
+    g.T.PixelSink.shows l.to rest (before ++ flat_map (drawn l.request.camera l.request.size)
+    (items_of (take l.number l.tris))))

@@ -6,7 +6,8 @@ use Rattle.journal.proofs.journal_builder.pad_to.Goals as goal
 pub loop-preserved : goal.loop-preserved
 loop-preserved c = (
   padded c.args.uppers.now.items c.loop.uppers.items c.push.new.self.items c.of.result c.loop.counter c.args.page
-      c.in_ok-push.ensures.items (c.of.ensures ∙ c.new.ensures.items) c.loop.invariant.0 c.loop.invariant.1 c.loop-test.true,
+      c.in_ok-push.ensures.items (c.of.ensures ∙ c.new.ensures.items) c.loop.invariant.0 c.loop.invariant.1
+          c.loop-test.true,
   omega (arith, c.loop.invariant.1),
 )
 

@@ -8,6 +8,8 @@ use Rattle.page_codec.proofs.decode_pages.read_clusters.Given as goal
 -- the clusters so far and those that are left
 abbrev pub invariant-clusters : goal.invariant-clusters
 invariant-clusters l = record {
-  room : TRIANGLE_BYTES * sum_by (λ c. (cluster_at l.fn.heads c).tris) (drop l.cluster-index l.clusters) ≤ length l.rest;
-  all : l.items.items ++ clusters_of l.fn.heads (drop l.cluster-index l.clusters) l.rest ≡ clusters_of l.fn.heads l.clusters l.bytes;
+  room : TRIANGLE_BYTES * sum_by (λ c. (cluster_at l.fn.heads c).tris)
+      (drop l.cluster-index l.clusters) ≤ length l.rest;
+  all : l.items.items ++ clusters_of l.fn.heads
+      (drop l.cluster-index l.clusters) l.rest ≡ clusters_of l.fn.heads l.clusters l.bytes;
 }

@@ -15,9 +15,12 @@ unfolding directory_of
 returns-in_ok-digests-in-None-clause-spelling c =
     let bytes = c.args.bytes.now in
     let counts = c.args.counts.now in
-    ap (λ heads. directory_bytes (record { heads = heads; digests = c.in_ok-digests-in-None.digests })) c.in_ok-heads-in-None.ensures.heads
-    ∙ ap (λ digests. directory_bytes (record { heads = heads_of counts bytes; digests = digests })) c.in_ok-digests-in-None.ensures.digests
-    ∙ directory_bytes-read counts bytes c.requires.length (λ i. omega (arith, c.type_inv.bytes i)) (sym c.in-None.ensures.first)
+    ap (λ heads. directory_bytes (record { heads = heads; digests = c.in_ok-digests-in-None.digests }))
+        c.in_ok-heads-in-None.ensures.heads
+    ∙ ap (λ digests. directory_bytes (record { heads = heads_of counts bytes; digests = digests }))
+        c.in_ok-digests-in-None.ensures.digests
+    ∙ directory_bytes-read counts bytes c.requires.length (λ i. omega (arith, c.type_inv.bytes i))
+        (sym c.in-None.ensures.first)
 
 pub returns-in_ok-digests-in-None-clause-counts : goal.returns-in_ok-digests-in-None-clause-counts
 returns-in_ok-digests-in-None-clause-counts c =
@@ -29,7 +32,10 @@ returns-in_ok-digests-in-None-clause-fits c =
     let bytes = c.args.bytes.now in
     let counts = c.args.counts.now in
     let with_heads : Heads → Directory = λ heads. record { heads = heads; digests = c.in_ok-digests-in-None.digests } in
-    let with_digests : List Digest32 → Directory = λ digests. record { heads = heads_of counts bytes; digests = digests } in
-    let same = ap with_heads c.in_ok-heads-in-None.ensures.heads ∙ ap with_digests c.in_ok-digests-in-None.ensures.digests in
+    let with_digests : List Digest32 → Directory =
+        λ digests. record { heads = heads_of counts bytes; digests = digests } in
+    let same =
+        ap with_heads c.in_ok-heads-in-None.ensures.heads ∙ ap with_digests c.in_ok-digests-in-None.ensures.digests in
     let P : Directory → Type 0 = λ found. FitsDirectory found in
-    subst P (sym same) (FitsDirectory-read counts bytes c.requires.counts c.requires.length (sym c.in-None.ensures.first))
+    subst P (sym same) (FitsDirectory-read counts bytes c.requires.counts c.requires.length
+        (sym c.in-None.ensures.first))

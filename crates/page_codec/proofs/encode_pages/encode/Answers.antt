@@ -12,7 +12,9 @@ returns c =
     let size : length new ≡ 65536 = omega (arith, c.write_page-end.auto.into, c.requires.room) in
     let fill = c.fill.ensures.after (search rules) in
     record {
-      page = page-filled (clusters_bytes (page_in c.args.dag.now c.args.page).clusters) new c.fill.new.self end 65536 size c.write_page-end.ensures.room
+      page =
+          page-filled (clusters_bytes (page_in c.args.dag.now c.args.page).clusters) new c.fill.new.self end 65536 size
+          c.write_page-end.ensures.room
           c.write_page-end.ensures.written c.write_page-end.ensures.end
           (fill ∙ ap (λ n. replicate n 0) (omega (arith, size, length-take {A = ℕ}, length-drop {A = ℕ})));
     }

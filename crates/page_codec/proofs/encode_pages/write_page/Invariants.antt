@@ -10,8 +10,11 @@ abbrev pub invariant-groups : goal.invariant-groups
 invariant-groups l = record {
   within : l.g ≤ length l.dag.heads.groups;
   here : l.g < length l.dag.heads.groups → (get_or l.dag.heads.groups l.g no_group).page ≡ l.page;
-  room : l.end + length (bytes_of l.dag (flat_map (members_of l.page) (drop l.g l.dag.heads.groups))) ≡ length (bytes_of l.dag (flat_map (members_of l.page) l.dag.heads.groups));
-  all : take l.end l.into ++ bytes_of l.dag (flat_map (members_of l.page) (drop l.g l.dag.heads.groups)) ≡ bytes_of l.dag (flat_map (members_of l.page) l.dag.heads.groups);
+  room : l.end + length (bytes_of l.dag (flat_map (members_of l.page) (drop l.g l.dag.heads.groups))) ≡ length
+      (bytes_of l.dag (flat_map (members_of l.page) l.dag.heads.groups));
+  all : take l.end l.into ++ bytes_of l.dag
+      (flat_map (members_of l.page) (drop l.g l.dag.heads.groups)) ≡ bytes_of l.dag
+      (flat_map (members_of l.page) l.dag.heads.groups);
 }
 
 abbrev pub decreases-groups : goal.decreases-groups

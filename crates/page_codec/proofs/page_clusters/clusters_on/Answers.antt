@@ -10,11 +10,15 @@ pub groups-init : goal.groups-init
 groups-init c =
     let groups = c.args.heads.now.groups in
     let P : ℕ → Type 0 = λ n. IsNext groups c.args.page 0 n in
-    let walk = subst P (sym c.first_group-g.ensures.group) (IsNext-next_on groups c.args.page (length groups) 0 (omega arith)) in
+    let walk =
+        subst P (sym c.first_group-g.ensures.group)
+        (IsNext-next_on groups c.args.page (length groups) 0 (omega arith)) in
     record {
       within = walk.within;
       here = walk.here;
-      all = ap (λ xs. xs ++ flat_map (members_of c.args.page) (drop c.first_group-g.result groups)) c.new-clusters.ensures.items ∙ sym walk.members;
+      all =
+          ap (λ xs. xs ++ flat_map (members_of c.args.page) (drop c.first_group-g.result groups))
+          c.new-clusters.ensures.items ∙ sym walk.members;
     }
 
 pub groups-smaller : goal.groups-smaller
@@ -23,7 +27,9 @@ groups-smaller c =
     let g = c.groups.g in
     let below : g < length groups = rw c.as_slice-groups.ensures at c.groups-test.true in
     let P : ℕ → Type 0 = λ n. IsNext groups (get_or groups g no_group).page (g + 1) n in
-    let walk = subst P (sym c.next_group-g.ensures.group) (IsNext-next_on groups (get_or groups g no_group).page (length groups - (g + 1)) (g + 1) (omega arith)) in
+    let walk =
+        subst P (sym c.next_group-g.ensures.group)
+        (IsNext-next_on groups (get_or groups g no_group).page (length groups - (g + 1)) (g + 1) (omega arith)) in
     omega (arith, walk.from, below)
 
 pub groups-preserved : goal.groups-preserved
@@ -35,12 +41,15 @@ groups-preserved c =
     let here : (get_or groups g no_group).page ≡ page = c.groups.invariant.here below in
     let P : ℕ → Type 0 = λ n. IsNext groups page (g + 1) n in
     let next = c.next_group-g.ensures.group in
-    let walk = subst P (sym (rw here at next)) (IsNext-next_on groups page (length groups - (g + 1)) (g + 1) (omega arith)) in
+    let walk =
+        subst P (sym (rw here at next)) (IsNext-next_on groups page (length groups - (g + 1)) (g + 1) (omega arith)) in
     let appended = c.in_ok-push_range.ensures.appended in
     record {
       within = walk.within;
       here = walk.here;
-      all = members-step groups page g c.next_group-g.result c.groups.clusters.items c.push_range.new.out.items (flat_map (members_of page) groups)
+      all =
+          members-step groups page g c.next_group-g.result c.groups.clusters.items c.push_range.new.out.items
+          (flat_map (members_of page) groups)
           below here walk (rw c.as_slice-groups.ensures at appended) c.groups.invariant.all;
     }
 

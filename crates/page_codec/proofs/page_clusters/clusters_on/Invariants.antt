@@ -9,7 +9,8 @@ abbrev pub invariant-groups : goal.invariant-groups
 invariant-groups l = record {
   within : l.g ≤ length l.heads.groups;
   here : l.g < length l.heads.groups → (get_or l.heads.groups l.g no_group).page ≡ l.page;
-  all : l.clusters.items ++ flat_map (members_of l.page) (drop l.g l.heads.groups) ≡ flat_map (members_of l.page) l.heads.groups;
+  all : l.clusters.items ++ flat_map (members_of l.page) (drop l.g l.heads.groups) ≡ flat_map
+      (members_of l.page) l.heads.groups;
 }
 
 abbrev pub decreases-groups : goal.decreases-groups

@@ -7,7 +7,9 @@ use Rattle.page_codec.proofs.page_indexes.link.Goals as goal
 pub groups-init : goal.groups-init
 groups-init c = record {
   left = omega arith;
-  first = λ p below. c.requires.none p 0 below ∙ sym (next_on-end c.args.groups.now p (length c.args.groups.now) (omega arith));
+  first =
+      λ p below. c.requires.none p 0 below ∙ sym
+      (next_on-end c.args.groups.now p (length c.args.groups.now) (omega arith));
   next = λ j from to. absurd (omega arith);
 }
 
@@ -20,9 +22,12 @@ groups-preserved c =
     let firsts : ℕ → Type 0 = λ n. FirstsLinked groups c.groups.firsts n in
     let nexts : ℕ → Type 0 = λ n. NextsLinked groups c.groups.nexts n in
     let linked = subst firsts after c.groups.invariant.first in
-    let within : (get_or groups g no_group).page < length c.groups.firsts = omega (arith, c.requires.pages g no_group below, c.groups.auto.firsts) in
+    let within : (get_or groups g no_group).page < length c.groups.firsts =
+        omega (arith, c.requires.pages g no_group below, c.groups.auto.firsts) in
     record {
       left = omega (arith, c.groups.invariant.left);
       first = FirstsLinked-more groups c.groups.firsts g below within linked;
-      next = NextsLinked-more groups c.groups.firsts c.groups.nexts g below within (omega (arith, c.requires.nexts, c.groups.auto.nexts)) linked (subst nexts after c.groups.invariant.next);
+      next =
+          NextsLinked-more groups c.groups.firsts c.groups.nexts g below within
+          (omega (arith, c.requires.nexts, c.groups.auto.nexts)) linked (subst nexts after c.groups.invariant.next);
     }

@@ -11,7 +11,9 @@ records-preserved g c =
     record {
       room = omega (arith, left, c.split_at.ensures.back_len, c.size.ensures.size);
       place = omega (arith, left, c.size-in-records.ensures.size, c.records.invariant.place);
-      first = rw c.size-in-records.ensures.size (breaks_in-step rules size c.records.offset c.args.count c.records.k c.records.rest.now c.split_at.result.0.now c.split_at.result.1.now _ below
+      first =
+          rw c.size-in-records.ensures.size (breaks_in-step rules size c.records.offset c.args.count c.records.k
+          c.records.rest.now c.split_at.result.0.now c.split_at.result.1.now _ below
           (c.split_at.ensures.front ∙ ap (λ n. take n c.records.rest.now) c.size.ensures.size)
           (c.split_at.ensures.back ∙ ap (λ n. drop n c.records.rest.now) c.size.ensures.size)
           (none-first (rules c.split_at.result.0.now) c.in_default.ensures.rule) c.records.invariant.first);

@@ -10,5 +10,6 @@ invariant-records g l =
     record {
       room : size * (l.count - l.k) ≤ length l.rest;
       place : l.offset + size * (l.count - l.k) < 2 ^ 32;
-      first : first_of (breaks_in rules size l.offset (l.count - l.k) l.rest) ≡ first_of (breaks_in rules size l.start l.count l.bytes);
+      first : first_of (breaks_in rules size l.offset (l.count - l.k) l.rest) ≡ first_of
+          (breaks_in rules size l.start l.count l.bytes);
     }

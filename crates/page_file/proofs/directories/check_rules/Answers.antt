@@ -9,4 +9,5 @@ returns-in-Ok-clause-kept c = rules-kept c.args.heads.now c.in-Ok.ensures.checke
 pub returns-in-Err-Rule-clause-refused : goal.returns-in-Err-Rule-clause-refused
 returns-in-Err-Rule-clause-refused c =
     rules-broken c.args.heads.now c.in-Err-Rule.number c.in-Err-Rule.index
-    (c.in-Err-Rule.ensures.first_break c.in-Err-Rule.number c.in-Err-Rule.index (ap (λ (fault : CheckFault). Err fault) c.in-Err-Rule.field-0-is))
+    (c.in-Err-Rule.ensures.first_break c.in-Err-Rule.number c.in-Err-Rule.index
+        (ap (λ (fault : CheckFault). Err fault) c.in-Err-Rule.field-0-is))

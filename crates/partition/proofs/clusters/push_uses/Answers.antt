@@ -5,7 +5,8 @@ use Rattle.partition.specs.declared.edge_uses.EdgeUse.{EdgeUse}
 use Rattle.partition.proofs.clusters.push_uses.Goals as goal
 
 -- three pushes are one list at the end
-pushes : (xs ys zs ws : List EdgeUse) (a b c x y z : EdgeUse) → ys ≡ xs ++ a ∷ [] → zs ≡ ys ++ b ∷ [] → ws ≡ zs ++ c ∷ [] → a ≡ x → b ≡ y → c ≡ z →
+pushes : (xs ys zs ws : List EdgeUse) (a b c x y z : EdgeUse) → ys ≡ xs ++ a ∷ [] → zs ≡ ys ++ b ∷ [] →
+    ws ≡ zs ++ c ∷ [] → a ≡ x → b ≡ y → c ≡ z →
     ws ≡ xs ++ x ∷ y ∷ z ∷ []
 pushes xs ys zs ws a b c x y z f g h p q r =
     h ∙ (ap (λ us. us ++ c ∷ []) (g ∙ ap (λ us. us ++ b ∷ []) f)

@@ -15,4 +15,6 @@ loop-edge-preserved c k h =
     ]
 
 pub returns : goal.returns
-returns c is = All-from_get_or (IsSharedEdge c.args.count) c.args.shared.now [] (λ k h. c.loop-edge.invariant k (omega (arith, c.len-edge-end.ensures)))
+returns c is =
+    All-from_get_or (IsSharedEdge c.args.count) c.args.shared.now []
+    (λ k h. c.loop-edge.invariant k (omega (arith, c.len-edge-end.ensures)))

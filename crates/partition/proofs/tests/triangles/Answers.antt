@@ -8,6 +8,9 @@ use Rattle.partition.proofs.tests.triangles.Goals as goal
 pub loop-corners-preserved : goal.loop-corners-preserved
 loop-corners-preserved c =
     let P : List Tri → Type 0 = λ xs. All HasGridCorners xs in (
-      ap length c.in_ok-push.ensures.items ∙ (length_push c.loop-corners.tris.items c.triangle.result ∙ ap (λ n. n + 1) c.loop-corners.invariant.0),
-      subst P (sym c.in_ok-push.ensures.items) (All-push HasGridCorners c.loop-corners.tris.items c.triangle.result c.loop-corners.invariant.1 c.triangle.ensures),
+      ap length c.in_ok-push.ensures.items ∙ (length_push c.loop-corners.tris.items c.triangle.result ∙
+          ap (λ n. n + 1) c.loop-corners.invariant.0),
+      subst P (sym c.in_ok-push.ensures.items)
+          (All-push HasGridCorners c.loop-corners.tris.items c.triangle.result c.loop-corners.invariant.1
+          c.triangle.ensures),
     )

@@ -10,7 +10,8 @@ returns-in-Some-clause-installed c =
     let v = c.in-Some.item.now in
     let w = c.install.new.self in
     let at : get nat_cmp old c.args.frame.0 ≡ Some v = search rules in
-    PutsItem-changed c.args.frame.0 (installed_item c.args.page) old (c.get_mut.follows.lender w) v w at c.install.ensures.installed (c.get_mut.follows.holds w)
+    PutsItem-changed c.args.frame.0 (installed_item c.args.page) old
+        (c.get_mut.follows.lender w) v w at c.install.ensures.installed (c.get_mut.follows.holds w)
 
 pub returns-in-Some-clause-pins : goal.returns-in-Some-clause-pins
 returns-in-Some-clause-pins c = λ p.

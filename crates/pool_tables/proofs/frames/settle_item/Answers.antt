@@ -10,4 +10,5 @@ returns-in-Some c =
     let v = c.in-Some.item.now in
     let w = c.settle.new.self in
     let at : get nat_cmp old c.args.frame.0 ≡ Some v = search rules in
-    PutsItem-changed c.args.frame.0 (settled_item c.args.by c.args.count c.args.pins) old (c.get_mut.follows.lender w) v w at c.settle.ensures (c.get_mut.follows.holds w)
+    PutsItem-changed c.args.frame.0 (settled_item c.args.by c.args.count c.args.pins) old
+        (c.get_mut.follows.lender w) v w at c.settle.ensures (c.get_mut.follows.holds w)

@@ -6,4 +6,5 @@ use Rattle.pool_tables.proofs.pin_moves.unpin_flagged.Given as goal
 
 abbrev pub invariant-loop-place : goal.invariant-loop-place
 invariant-loop-place l =
-    MovesPins (times (flagged l.missing l.flags)) (times (flagged (drop l.place l.missing) (drop l.place l.flags))) l.initial.table l.table
+    MovesPins (times (flagged l.missing l.flags))
+        (times (flagged (drop l.place l.missing) (drop l.place l.flags))) l.initial.table l.table

@@ -26,11 +26,18 @@ loop-want-preserved c =
     let b = is_waiting (counts_in records cur) page w in
     let same = is_waiting-alike records cur first page w (old.asked w.frame.0) (old.ended w.frame.0) old.last_asked in
     record {
-      items = λ n. items-step counts page n w (drop k ws) (drop (k + 1) ws) b (item_of cur n) (item_of new n) (grown (waits_for (standing counts ws) n page) page (item_of first n)) (from-place ws k no_want c.loop-want-test.true) (old.items n) same (done.items n);
-      asked = λ n. ap asked_in (done.items n) ∙ (asked-grown (b && (w.frame.0 == n)) page (item_of cur n) ∙ old.asked n);
-      ended = λ n. ap ended_in (done.items n) ∙ (ended-grown (b && (w.frame.0 == n)) page (item_of cur n) ∙ old.ended n);
+      items =
+          λ n. items-step counts page n w (drop k ws) (drop (k + 1) ws) b (item_of cur n) (item_of new n)
+          (grown (waits_for (standing counts ws) n page) page (item_of first n))
+          (from-place ws k no_want c.loop-want-test.true) (old.items n) same (done.items n);
+      asked =
+          λ n. ap asked_in (done.items n) ∙ (asked-grown (b && (w.frame.0 == n)) page (item_of cur n) ∙ old.asked n);
+      ended =
+          λ n. ap ended_in (done.items n) ∙ (ended-grown (b && (w.frame.0 == n)) page (item_of cur n) ∙ old.ended n);
       last_asked = done.last_asked ∙ old.last_asked;
       ordered = λ sorted. done.ordered (old.ordered sorted);
-      pins = λ p. pins-step (page == p) (pin_count first.items p) (pin_count cur.items p) (pin_count new.items p) c.loop-want.pins c.install_for-pins.result (old.pins p) (done.pins p);
+      pins =
+          λ p. pins-step (page == p) (pin_count first.items p) (pin_count cur.items p)
+          (pin_count new.items p) c.loop-want.pins c.install_for-pins.result (old.pins p) (done.pins p);
       few = omega (arith, old.few, done.one);
     }

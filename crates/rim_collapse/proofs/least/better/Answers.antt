@@ -4,7 +4,9 @@ use Rattle.rim_collapse.specs.declared.keys.Key.{Key}
 use Rattle.rim_collapse.specs.Cost.{key_of}
 use Rattle.rim_collapse.specs.Internal.Bests.{beats}
 use Rattle.rim_collapse.specs.Internal.Facets.{facet_cost, tris_in}
-use Rattle.rim_collapse.proofs.BestLaws.{best-kept, best-taken, cost-facets, edge-facets, legal-facets, source-grid, target-grid}
+use Rattle.rim_collapse.proofs.BestLaws.{
+  best-kept, best-taken, cost-facets, edge-facets, legal-facets, source-grid, target-grid,
+}
 use Rattle.rim_collapse.proofs.Listed.{closed-illegal, closed-itself, key-is}
 use Rattle.rim_collapse.proofs.least.better.Goals as goal
 use Rattle.rim_collapse.proofs.least.better.Goals.{else-beats-via-then-beats+else-is_legal, else-beats-via-else-beats}
@@ -35,7 +37,8 @@ returns-then-is_legal c = λ tried was.
     (c.cost_of.ensures ∙ ap (λ v. sum_by (facet_cost v) facets) c.minus.ensures.difference ∙
     cost-facets facets a b c.requires.facets) c.cheb.ensures.distance in
     best-taken (tris_in facets) a b tried c.args.best k is (sym c.beats.ensures ∙ c.if-beats.true)
-    (and_from _ _ (edge-facets facets a b c.requires.facets (sym c.is_same.ensures ∙ c.if-is_same.false) c.requires.corner)
+    (and_from _ _ (edge-facets facets a b c.requires.facets
+        (sym c.is_same.ensures ∙ c.if-is_same.false) c.requires.corner)
     (sym (c.is_legal.ensures ∙ legal-facets facets a b) ∙ c.if-is_legal.true)) was
 
 pub returns-else-beats : goal.returns-else-beats
@@ -50,5 +53,6 @@ returns-else-beats c = λ tried was.
     best-kept (tris_in facets) a b tried c.args.best (elim c.else-beats.branch [
       | else-beats-via-then-beats+else-is_legal w ↦ inl (closed-illegal (tris_in facets) a b
           (sym (w.is_legal.ensures ∙ legal-facets facets a b) ∙ w.if-is_legal.false))
-      | else-beats-via-else-beats w ↦ inr (ap (λ l. beats l c.args.best) (sym is) ∙ sym c.beats.ensures ∙ w.if-beats.false)
+      | else-beats-via-else-beats w ↦ inr (ap (λ l. beats l c.args.best) (sym is) ∙ sym c.beats.ensures ∙
+          w.if-beats.false)
     ]) was

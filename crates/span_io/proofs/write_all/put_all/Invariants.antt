@@ -6,7 +6,8 @@ use Rattle.span_io.proofs.write_all.put_all.Given as goal
 abbrev pub invariant-loop-at : goal.invariant-loop-at
 invariant-loop-at g l = record {
   within : l.at ≤ length l.bytes;
-  appended : Appends (g.K.Sink.written l.fn.out) (g.K.Sink.written l.out) (g.K.Sink.flushed l.fn.out) (g.K.Sink.flushed l.out) (take l.at l.bytes);
+  appended : Appends (g.K.Sink.written l.fn.out) (g.K.Sink.written l.out) (g.K.Sink.flushed l.fn.out)
+      (g.K.Sink.flushed l.out) (take l.at l.bytes);
   no_fault : g.K.Sink.faults l.out ≡ g.K.Sink.faults l.fn.out;
 }
 

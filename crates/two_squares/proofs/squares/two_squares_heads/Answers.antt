@@ -7,11 +7,13 @@ use Rattle.dag_core.proofs.TwoSquares as squares
 use Rattle.dag_core.proofs.TwoSquaresLaws.{two_squares_checked, two_squares_in_range}
 use Rattle.two_squares.proofs.squares.two_squares_heads.Goals as goal
 
-range_if : (result : Result Heads Memory) → IfOk result (λ heads. heads ≡ squares.two_squares_heads) → IfOk result IsInRange
+range_if : (result : Result Heads Memory) → IfOk result (λ heads. heads ≡ squares.two_squares_heads) →
+    IfOk result IsInRange
 range_if (Ok heads) same = subst IsInRange (sym same) two_squares_in_range
 range_if (Err refused) same = tt
 
-checked_if : (result : Result Heads Memory) → IfOk result (λ heads. heads ≡ squares.two_squares_heads) → IfOk result Checked
+checked_if : (result : Result Heads Memory) → IfOk result (λ heads. heads ≡ squares.two_squares_heads) →
+    IfOk result Checked
 checked_if (Ok heads) same = subst Checked (sym same) two_squares_checked
 checked_if (Err refused) same = tt
 

@@ -6,13 +6,17 @@ use Rattle.dag_core.proofs.HalvingLaws.{checked_in_turn, firsts_parted, home_fou
 use Rattle.dag_core.proofs.RangeLaws.{sizes_of}
 use Rattle.dag_core.proofs.heads.Heads.home.Goals as goal
 
-found : (c : goal.After-partition_point-after) → (1 ≤ c.partition_point-after.result) × (home c.args.self.now c.args.c ≡ c.partition_point-after.result - 1)
+found : (c : goal.After-partition_point-after) → (1 ≤ c.partition_point-after.result) ×
+    (home c.args.self.now c.args.c ≡ c.partition_point-after.result - 1)
 found c =
     let turn = checked_in_turn c.args.self.now c.requires.checked in
     let sizes = sizes_of c.args.self.now c.requires.range in
     let parted = firsts_parted c.args.self.now c.as_slice.result.now c.args.c c.as_slice.ensures turn in
-    let point = IsPartitionPoint-from_clause (λ (group : Group). leb group.first c.args.c) _ _ c.partition_point-after.ensures.partitioned parted (λ a r q k. search rules) in
-    home_found c.args.self.now c.as_slice.result.now c.partition_point-after.result c.args.c c.as_slice.ensures turn sizes.some_group c.requires.cluster
+    let point =
+        IsPartitionPoint-from_clause (λ (group : Group). leb group.first c.args.c) _ _
+        c.partition_point-after.ensures.partitioned parted (λ a r q k. search rules) in
+    home_found c.args.self.now c.as_slice.result.now c.partition_point-after.result c.args.c c.as_slice.ensures turn
+        sizes.some_group c.requires.cluster
     c.partition_point-after.ensures.bound point
 
 pub overflow_cast-result : goal.overflow_cast-result

@@ -10,7 +10,8 @@ returns-then-not-are_counts_in_range c =
     record {
       range = (
         λ is. absurd (false≢true is),
-        λ range. absurd (not_counted c.args.self.now c.counts-counts.result c.counts-counts.ensures.counts (sym fails ∙ c.are_counts_in_range.ensures.counts) range),
+        λ range. absurd (not_counted c.args.self.now c.counts-counts.result c.counts-counts.ensures.counts
+            (sym fails ∙ c.are_counts_in_range.ensures.counts) range),
       );
     }
 
@@ -20,7 +21,8 @@ returns-then-not-are_groups_in_range c =
     record {
       range = (
         λ is. absurd (false≢true is),
-        λ range. absurd (not_grouped c.args.self.now c.counts-counts.result c.as_slice-groups.result.now c.counts-counts.ensures.counts c.as_slice-groups.ensures
+        λ range. absurd (not_grouped c.args.self.now c.counts-counts.result c.as_slice-groups.result.now
+            c.counts-counts.ensures.counts c.as_slice-groups.ensures
             (sym fails ∙ c.are_groups_in_range.ensures.groups) range),
       );
     }
@@ -30,7 +32,10 @@ returns c =
     let counted : c.are_counts_in_range.result ≡ true = grind (arith, nat_tests) in
     let grouped : c.are_groups_in_range.result ≡ true = grind (arith, nat_tests) in
     record {
-      range = all_in_range c.args.self.now c.counts-counts.result c.as_slice-groups.result.now c.as_slice-clusters.result.now c.are_clusters_in_range.result
-          c.counts-counts.ensures.counts c.as_slice-groups.ensures c.as_slice-clusters.ensures (sym counted ∙ c.are_counts_in_range.ensures.counts)
+      range =
+          all_in_range c.args.self.now c.counts-counts.result c.as_slice-groups.result.now
+          c.as_slice-clusters.result.now c.are_clusters_in_range.result
+          c.counts-counts.ensures.counts c.as_slice-groups.ensures c.as_slice-clusters.ensures
+              (sym counted ∙ c.are_counts_in_range.ensures.counts)
           (sym grouped ∙ c.are_groups_in_range.ensures.groups) c.are_clusters_in_range.ensures.clusters;
     }

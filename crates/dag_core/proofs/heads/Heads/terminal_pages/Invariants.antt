@@ -6,5 +6,6 @@ use Rattle.dag_core.proofs.heads.Heads.terminal_pages.Given as goal
 abbrev pub invariant-loop-g : goal.invariant-loop-g
 invariant-loop-g l = record {
   count : length l.pages.items ≡ l.self.pages;
-  marks : (p : ℕ) → get_or l.pages.items p false ≡ list_any (λ (group : Group). group.terminal && group.page == p) (take l.g l.self.groups);
+  marks : (p : ℕ) → get_or l.pages.items p false ≡ list_any (λ (group : Group). group.terminal && group.page == p)
+      (take l.g l.self.groups);
 }

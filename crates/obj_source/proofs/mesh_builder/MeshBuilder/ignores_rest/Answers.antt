@@ -8,4 +8,5 @@ returns-in-Passed c mesh_so_far line words more settled stands =
 pub returns-in-Vertex : goal.returns-in-Vertex
 returns-in-Vertex c mesh_so_far line words more settled stands =
     stands_settled c.args.self.now mesh_so_far line words more
-    (settled_vertex c.args.self.now c.in-Vertex.vertex c.in-Vertex.is (λ scale rest. c.ignores_rest.ensures scale rest settled)) stands
+    (settled_vertex c.args.self.now c.in-Vertex.vertex c.in-Vertex.is
+        (λ scale rest. c.ignores_rest.ensures scale rest settled)) stands

@@ -109,7 +109,8 @@ returns-clause-left c =
     let new : ListedPages = record {
       capacity = list.end;
       pages =
-          pages_after (set list.next.items c.index-before.result.now c.index-after.result.now) list.end list.end list.end;
+          pages_after (set list.next.items c.index-before.result.now c.index-after.result.now) list.end list.end
+              list.end;
     } in
     let spelt : new ≡ whole = ap (λ pages. record { capacity = list.end; pages = pages }) found in
     spelt ∙ at_view

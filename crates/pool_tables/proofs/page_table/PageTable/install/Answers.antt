@@ -1,4 +1,6 @@
-use Rattle.std.proofs.Common.{◌≡◌, ℕ, ◌<◌, ◌≤◌, ◌&&◌, nat_lt, not, true, false, None, is_some, sym, ap, ◌∙◌, refl, arith}
+use Rattle.std.proofs.Common.{
+  ◌≡◌, ℕ, ◌<◌, ◌≤◌, ◌&&◌, nat_lt, not, true, false, None, is_some, sym, ap, ◌∙◌, refl, arith,
+}
 use Rattle.pool_rules.specs.Numbers.{is_among}
 use Rattle.pool_tables.specs.PageRecords.{record_at}
 use Rattle.pool_tables.specs.declared.page_record.PageRecord.{PageRecord}
@@ -26,7 +28,8 @@ invariant_of-self c =
     let unlisted : is_among table.order.pages page ≡ false = c.self.invariant.0.listed page
     ∙ ap (λ b. b && not (nat_lt page table.roots)) absent in
     let same = held-same records page r lt (sym (held-loading (record_at records page) loading)) in (
-      rw c.push.ensures (IsUseOrder-install table.roots records table.order page r lt c.self.invariant.0 unlisted no_root
+      rw c.push.ensures (IsUseOrder-install table.roots records table.order page r lt c.self.invariant.0 unlisted
+          no_root
           refl later),
       omega (arith, same, c.self.invariant.1),
     )
