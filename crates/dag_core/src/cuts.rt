@@ -28,7 +28,8 @@ impl Heads {
 
     /// Returns the cut: the clusters, ascending, whose home is open and that no open group made.
     ///
-    /// The resident pages may be any ascending list. Only over a closed one is each part of the mesh drawn once.
+    /// The resident pages may be any ascending list. Over a closed one each path from a leaf to a
+    /// root meets exactly one cluster of the cut (`cut_laws`).
     pub fn cut(&self, alloc: Global, lens: &Lens, resident: &Nums) -> Result<Nums, Memory>
         requires range { IsInRange self.now }
         requires checked { Checked self.now }

@@ -30,7 +30,7 @@ fn mark_corners(marks: &mut Vec<bool>, face: Face)
     marks[face.c as usize] = true;
 }
 
-/// Marks the corners of all faces with corner `a`, and no other point.
+/// Marks the corners of all faces with corner `a`.
 pub(crate) fn mark_round(marks: &mut Vec<bool>, faces: &[Face], a: u32)
     requires numbers { All (IsNumbered (length marks.old.items)) faces.now }
     ensures count { length marks.new.items ≡ length marks.old.items }
