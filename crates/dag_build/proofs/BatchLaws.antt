@@ -1,15 +1,11 @@
 -- Batches of a level, and the triangles that are cut into clusters.
-use Rattle.std.proofs.Common.{
-  ◌≡◌, ◌≤◌, ◌<◌, ◌+◌, ℕ, false, List, [], ◌∷◌, ◌++◌, map, flat_map, take, drop, length, get_or, slice_index, All, refl,
-  sym, ap, ◌∙◌, subst, arith,
-}
+use Rattle.std.proofs.Common.{◌≡◌, ◌≤◌, ◌<◌, ◌+◌, ℕ, false, List, [], ◌∷◌, ◌++◌, map, flat_map, take, drop, length}
+use Rattle.std.proofs.Common.{get_or, slice_index, All, refl, sym, ap, ◌∙◌, subst, arith}
 use Rattle.std.specs.List.{concat}
 use Rattle.std.proofs.Math.Seq.{take-append-add}
 use Rattle.std.specs.List.Sorted.{IsPermutation}
-use Rattle.std.proofs.lemmas.List.{
-  append-nil, append_assoc, drop_more, get_or-append-add, get_or_append_left, length-append, length-map,
-  take-append-drop, take-append-le, take_more,
-}
+use Rattle.std.proofs.lemmas.List.{append-nil, append_assoc, drop_more, get_or-append-add, get_or_append_left}
+use Rattle.std.proofs.lemmas.List.{length-append, length-map, take-append-drop, take-append-le, take_more}
 use Rattle.std.proofs.lemmas.List.Elements.{All-map}
 use Rattle.std.proofs.lemmas.List.Folds.{flat_map-map}
 use Rattle.std.proofs.lemmas.List.Sorted.{length_permutation}

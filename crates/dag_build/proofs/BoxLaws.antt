@@ -1,7 +1,6 @@
 -- The corners of triangles of a mesh, and the low corner of the box round them.
-use Rattle.std.proofs.Common.{
-  IfSome, ◌≡◌, true, false, Bool, ◌&&◌, cond, ℤ, int_lt, List, [], ◌∷◌, flat_map, fold, All, refl,
-}
+use Rattle.std.proofs.Common.{IfSome, ◌≡◌, true, false, Bool, ◌&&◌, cond, ℤ, int_lt, List, [], ◌∷◌, flat_map, fold, All}
+use Rattle.std.proofs.Common.{refl}
 use Rattle.std.specs.Int.{int_max, int_min}
 use Rattle.std.proofs.lemmas.Bool.{and_parts, and_from}
 use Rattle.std.proofs.lemmas.List.Elements.{All-append, All-cons, All-head, All-nil, All-tail, All-weaker}
@@ -9,10 +8,8 @@ use Rattle.geom_core.specs.declared.boxes.Cube.{Cube}
 use Rattle.geom_core.specs.declared.points.Pt.{Pt}
 use Rattle.geom_core.specs.declared.triangles.Tri.{Tri}
 use Rattle.geom_core.specs.Boxes.{high_of, hull_of, join_of, low_of, point_box}
-use Rattle.geom_core.specs.Limits.{
-  HasGridCorners, IsGridPoint, IsGridTriangle, has_distinct_corners, has_grid_corners, is_grid_coordinate,
-  is_grid_point,
-}
+use Rattle.geom_core.specs.Limits.{HasGridCorners, IsGridPoint, IsGridTriangle, has_distinct_corners, has_grid_corners}
+use Rattle.geom_core.specs.Limits.{is_grid_coordinate, is_grid_point}
 use Rattle.half_mesh.specs.declared.edges.Edge.{Edge}
 use Rattle.half_mesh.specs.Rim.{EdgeSums, IsRimOf, ends_of}
 use Rattle.half_mesh.proofs.RimLaws.{law-ends_are_grid_points}

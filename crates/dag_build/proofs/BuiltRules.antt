@@ -1,16 +1,13 @@
 -- A built DAG keeps rules 1 to 4, and its numbers keep their ranges.
-use Rattle.std.proofs.Common.{
-  ◌≡◌, ◌∙◌, ◌<◌, ◌≤◌, ◌+◌, ◌==◌, ◌&&◌, ◌||◌, nat_le, nat_lt, not, cond, ℕ, zero, suc, Bool, true, false, List, [],
-  length, Option, None, Some, refl, sym, ap, subst, arith,
-}
+use Rattle.std.proofs.Common.{◌≡◌, ◌∙◌, ◌<◌, ◌≤◌, ◌+◌, ◌==◌, ◌&&◌, ◌||◌, nat_le, nat_lt, not, cond, ℕ, zero, suc, Bool}
+use Rattle.std.proofs.Common.{true, false, List, [], length, Option, None, Some, refl, sym, ap, subst, arith}
 use Rattle.std.specs.List.{list_any}
 use Rattle.std.proofs.lemmas.Bool.{and_from, eqb-true, false≢true, false_from_ne_true, not_from_true, or_from}
 use Rattle.std.proofs.lemmas.Bool.Decides.{nat_tests}
 use Rattle.std.proofs.lemmas.List.Elements.{All-from_get_or}
 use Rattle.std.proofs.lemmas.List.Folds.{list_any_none}
-use Rattle.geom_core.specs.declared.limits.TheConstants.{
-  CLUSTERS_PER_GROUP, MAX_CLUSTERS, MAX_ERROR, MAX_GROUPS, MAX_PAGES, MAX_TRIANGLES, TRIANGLES_PER_CLUSTER,
-}
+use Rattle.geom_core.specs.declared.limits.TheConstants.{CLUSTERS_PER_GROUP, MAX_CLUSTERS, MAX_ERROR, MAX_GROUPS}
+use Rattle.geom_core.specs.declared.limits.TheConstants.{MAX_PAGES, MAX_TRIANGLES, TRIANGLES_PER_CLUSTER}
 use Rattle.geom_core.specs.declared.triangles.Tri.{Tri}
 use Rattle.geom_core.specs.Boxes.{holds_box}
 use Rattle.dag_core.specs.declared.cluster_heads.ClusterHead.{ClusterHead}
@@ -19,13 +16,10 @@ use Rattle.dag_core.specs.declared.groups.Group.{Group}
 use Rattle.dag_core.specs.declared.heads.Heads.{Heads}
 use Rattle.dag_core.specs.Members.{group_at, home, is_made_by, is_maker, no_group}
 use Rattle.dag_core.specs.Members as dag_members
-use Rattle.dag_core.specs.Ranges.{
-  AreCountsInRange, IsClusterInRange, IsGroupInRange, IsInRange, counts_of, is_count_to, is_group_or_none,
-}
-use Rattle.dag_core.specs.Rules.{
-  KeepsRulesBelow, breaks, breaks_bound, breaks_maker, breaks_terminal, has_made, is_maker_at_most, is_maker_outside,
-  is_outgrown,
-}
+use Rattle.dag_core.specs.Ranges.{AreCountsInRange, IsClusterInRange, IsGroupInRange, IsInRange, counts_of, is_count_to}
+use Rattle.dag_core.specs.Ranges.{is_group_or_none}
+use Rattle.dag_core.specs.Rules.{KeepsRulesBelow, breaks, breaks_bound, breaks_maker, breaks_terminal, has_made}
+use Rattle.dag_core.specs.Rules.{is_maker_at_most, is_maker_outside, is_outgrown}
 use Rattle.dag_core.proofs.PlaceLaws.{none_at_all}
 use Rattle.dag_core.proofs.RuleLaws.{bound_at, bound_beyond, maker_at, maker_beyond, terminal_at, terminal_beyond}
 use Rattle.dag_build.specs.declared.level_clusters.LevelCluster.{LevelCluster}
@@ -34,14 +28,12 @@ use Rattle.dag_build.specs.Built.{AreLevels}
 use Rattle.dag_build.specs.Grouping.{full_sizes, no_cluster}
 use Rattle.dag_build.specs.Levels.{LevelGroup}
 use Rattle.dag_build.specs.Numbers.{group_head, groups_in, maker_number, members_in}
-use Rattle.dag_build.proofs.GroupNumbers.{
-  AreHeadsOf, cluster-count, first_at, group-at, group-count, home-at, in-turn, member-below, member-is,
-}
+use Rattle.dag_build.proofs.GroupNumbers.{AreHeadsOf, cluster-count, first_at, group-at, group-count, home-at, in-turn}
+use Rattle.dag_build.proofs.GroupNumbers.{member-below, member-is}
 use Rattle.dag_build.proofs.ClusterHomes.{IsClusterAt, cluster-at, groups-good, members-good}
 use Rattle.dag_build.proofs.GoodLevels.{AreGoodLevels}
-use Rattle.dag_build.proofs.GoodClusters.{
-  HasMaker, IsBound, IsBoundOf, IsGood, IsGoodGroup, group_of_level, no_level_group,
-}
+use Rattle.dag_build.proofs.GoodClusters.{HasMaker, IsBound, IsBoundOf, IsGood, IsGoodGroup, group_of_level}
+use Rattle.dag_build.proofs.GoodClusters.{no_level_group}
 use Rattle.dag_build.proofs.MadeLaws.{has-made}
 
 -- ---- rule 2

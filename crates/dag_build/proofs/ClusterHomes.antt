@@ -1,13 +1,10 @@
 -- Where the clusters of all levels are: in which group, and which group made them.
-use Rattle.std.proofs.Common.{
-  ◌≡◌, ◌∙◌, ◌<◌, ◌+◌, ◌-◌, inl, inr, ℕ, List, [], ◌∷◌, ◌++◌, length, map, take, get_or, All, sym, ap, subst, arith,
-}
+use Rattle.std.proofs.Common.{◌≡◌, ◌∙◌, ◌<◌, ◌+◌, ◌-◌, inl, inr, ℕ, List, [], ◌∷◌, ◌++◌, length, map, take, get_or, All}
+use Rattle.std.proofs.Common.{sym, ap, subst, arith}
 use Rattle.std.proofs.Math.Seq.{take-append-add}
 use Rattle.std.proofs.lemmas.Bool.{cases_lt}
-use Rattle.std.proofs.lemmas.List.{
-  append-nil, append_assoc, get_or-append-add, get_or-map, get_or_append_left, length-append, length-map,
-  take-append-le,
-}
+use Rattle.std.proofs.lemmas.List.{append-nil, append_assoc, get_or-append-add, get_or-map, get_or_append_left}
+use Rattle.std.proofs.lemmas.List.{length-append, length-map, take-append-le}
 use Rattle.std.proofs.lemmas.List.Elements.{All-append, All-nil}
 use Rattle.geom_core.specs.declared.triangles.Tri.{Tri}
 use Rattle.dag_core.specs.declared.cluster_heads.ClusterHead.{ClusterHead}

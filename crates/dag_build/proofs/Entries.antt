@@ -1,10 +1,8 @@
 -- The clusters of all levels in the order of their numbers, each with the number from which the groups of its maker's
 -- level
 -- count; and what a DAG's clusters that pass a test have.
-use Rattle.std.proofs.Common.{
-  ◌≡◌, ◌∙◌, ◌<◌, ◌+◌, cond, ℕ, zero, suc, Bool, true, false, List, [], ◌∷◌, ◌++◌, length, map, filter, flat_map, get_or,
-  refl, sym, ap, arith,
-}
+use Rattle.std.proofs.Common.{◌≡◌, ◌∙◌, ◌<◌, ◌+◌, cond, ℕ, zero, suc, Bool, true, false, List, [], ◌∷◌, ◌++◌, length}
+use Rattle.std.proofs.Common.{map, filter, flat_map, get_or, refl, sym, ap, arith}
 use Rattle.std.specs.List.{range_with_len}
 use Rattle.std.proofs.lemmas.List.{length-map, map-append}
 use Rattle.std.proofs.lemmas.List.FromFn.{fill_by_all}

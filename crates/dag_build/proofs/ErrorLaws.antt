@@ -1,25 +1,20 @@
 -- How many levels there are, and how great their errors are.
-use Rattle.std.proofs.Common.{
-  ◌≡◌, ◌<◌, ◌≤◌, ◌+◌, ◌*◌, ◌/◌, ◌&&◌, nat_le, cond, ℕ, ℤ, zero, suc, ◌-ℤ◌, unsigned_abs, Bool, true, false, List, [],
-  ◌∷◌, length, map, get_or, All, Some, refl, sym, subst, arith,
-}
+use Rattle.std.proofs.Common.{◌≡◌, ◌<◌, ◌≤◌, ◌+◌, ◌*◌, ◌/◌, ◌&&◌, nat_le, cond, ℕ, ℤ, zero, suc, ◌-ℤ◌, unsigned_abs}
+use Rattle.std.proofs.Common.{Bool, true, false, List, [], ◌∷◌, length, map, get_or, All, Some, refl, sym, subst, arith}
 use Rattle.std.proofs.lemmas.Bool.{and_parts}
 use Rattle.std.proofs.lemmas.Bool.Decides.{nat_tests}
 use Rattle.std.proofs.lemmas.Int.{ints}
-use Rattle.std.proofs.lemmas.List.Elements.{
-  All-append, All-cons, All-filter, All-from_get_or, All-head, All-map, All-nil, All-tail, All-weaker,
-}
+use Rattle.std.proofs.lemmas.List.Elements.{All-append, All-cons, All-filter, All-from_get_or, All-head, All-map}
+use Rattle.std.proofs.lemmas.List.Elements.{All-nil, All-tail, All-weaker}
 use Rattle.std.proofs.lemmas.List.Sorted.{All-permutation}
-use Rattle.geom_core.specs.declared.limits.TheConstants.{
-  CLUSTERS_PER_GROUP, MAX_COORDINATE, MAX_TRIANGLES, TRIANGLES_PER_CLUSTER,
-}
+use Rattle.geom_core.specs.declared.limits.TheConstants.{CLUSTERS_PER_GROUP, MAX_COORDINATE, MAX_TRIANGLES}
+use Rattle.geom_core.specs.declared.limits.TheConstants.{TRIANGLES_PER_CLUSTER}
 use Rattle.geom_core.specs.declared.points.Pt.{Pt}
 use Rattle.geom_core.specs.declared.triangles.Tri.{Tri}
 use Rattle.geom_core.specs.declared.triangles.Tagged.{Tagged}
 use Rattle.geom_core.specs.Distance.{distance}
-use Rattle.geom_core.specs.Limits.{
-  AreGridTriangles, IsGridPoint, IsGridTriangle, has_distinct_corners, is_grid_coordinate, is_grid_point,
-}
+use Rattle.geom_core.specs.Limits.{AreGridTriangles, IsGridPoint, IsGridTriangle, has_distinct_corners}
+use Rattle.geom_core.specs.Limits.{is_grid_coordinate, is_grid_point}
 use Rattle.geom_core.specs.Shift.{shift_of}
 use Rattle.geom_core.specs.TaggedLists.{tris_of}
 use Rattle.geom_core.proofs.DistanceLaws.{distance-least, max3-least}

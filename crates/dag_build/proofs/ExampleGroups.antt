@@ -1,10 +1,8 @@
 -- Groups of two triangles back to back, whose corners are all free: they collapse to nothing, without a move. Alone
 -- they leave nothing, and the group is terminal; beside another triangle it isn't, with error 0. A cluster has 2
 -- triangles here.
-use Rattle.std.proofs.Common.{
-  ◌≡◌, ◌≢◌, ◌∙◌, ◌||◌, ◌&&◌, not, cond, inl, inr, ℕ, ℤ, zero, suc, pos, negsuc, ◌+ℤ◌, Bool, true, false, List, [], ◌∷◌,
-  flat_map, Contains, refl, sym, ap, subst, arith,
-}
+use Rattle.std.proofs.Common.{◌≡◌, ◌≢◌, ◌∙◌, ◌||◌, ◌&&◌, not, cond, inl, inr, ℕ, ℤ, zero, suc, pos, negsuc, ◌+ℤ◌, Bool}
+use Rattle.std.proofs.Common.{true, false, List, [], ◌∷◌, flat_map, Contains, refl, sym, ap, subst, arith}
 use Rattle.std.specs.List.{list_all, list_any}
 use Rattle.std.specs.Int.{int_wrap, w32}
 use Rattle.std.proofs.lemmas.Bool.{and_parts, false≢true, or_cases}

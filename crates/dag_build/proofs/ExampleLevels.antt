@@ -1,9 +1,7 @@
 -- The levels of a mesh of one triangle, with 2 triangles a cluster and 2 clusters a group: one cluster, in one group,
 -- which is terminal since its level has one cluster.
-use Rattle.std.proofs.Common.{
-  ◌≡◌, ◌≢◌, ◌||◌, ◌&&◌, not, cond, inr, ℕ, ℤ, pos, negsuc, ◌+ℤ◌, Bool, true, false, List, [], ◌∷◌, flat_map, refl, sym,
-  arith,
-}
+use Rattle.std.proofs.Common.{◌≡◌, ◌≢◌, ◌||◌, ◌&&◌, not, cond, inr, ℕ, ℤ, pos, negsuc, ◌+ℤ◌, Bool, true, false, List}
+use Rattle.std.proofs.Common.{[], ◌∷◌, flat_map, refl, sym, arith}
 use Rattle.std.specs.Int.{int_wrap, w32}
 use Rattle.std.specs.declared.cmp.Ordering.TheVariants.{Less}
 use Rattle.std.proofs.lemmas.Bool.{and_parts, false≢true}

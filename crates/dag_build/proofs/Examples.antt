@@ -150,8 +150,7 @@ pub dag_of-two_levels : dag_of 8 levels ≡ record {
     roots = 1;
     sources = 8;
   };
-  tris =
-      (from_source 0 (lower 0) ∷ []) ∷ (from_source 3 (upper 1) ∷ []) ∷ leaf 0 ∷ leaf 1 ∷ leaf 2 ∷ leaf 3 ∷ [];
+  tris = (from_source 0 (lower 0) ∷ []) ∷ (from_source 3 (upper 1) ∷ []) ∷ leaf 0 ∷ leaf 1 ∷ leaf 2 ∷ leaf 3 ∷ [];
 }
 unfolding dag_of groups_in heads_from clusters_in made_from
 dag_of-two_levels = refl

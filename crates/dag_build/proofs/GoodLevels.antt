@@ -1,14 +1,12 @@
 -- What holds of each cluster and each group of the levels of a mesh.
-use Rattle.std.proofs.Common.{
-  ◌≡◌, ◌∙◌, ◌≤◌, ◌+◌, cond, ℕ, Bool, true, false, List, [], ◌∷◌, length, map, get_or, All, refl, sym, ap, subst, arith,
-}
+use Rattle.std.proofs.Common.{◌≡◌, ◌∙◌, ◌≤◌, ◌+◌, cond, ℕ, Bool, true, false, List, [], ◌∷◌, length, map, get_or, All}
+use Rattle.std.proofs.Common.{refl, sym, ap, subst, arith}
 use Rattle.std.specs.Bool.{⊤}
 use Rattle.std.proofs.lemmas.List.{length-map}
 use Rattle.std.proofs.lemmas.List.Elements.{All-append, All-head, All-map, All-nil, All-tail, All-weaker}
 use Rattle.std.proofs.lemmas.List.Sorted.{All-permutation}
-use Rattle.geom_core.specs.declared.limits.TheConstants.{
-  CLUSTERS_PER_GROUP, MAX_ERROR, MAX_TRIANGLES, TRIANGLES_PER_CLUSTER,
-}
+use Rattle.geom_core.specs.declared.limits.TheConstants.{CLUSTERS_PER_GROUP, MAX_ERROR, MAX_TRIANGLES}
+use Rattle.geom_core.specs.declared.limits.TheConstants.{TRIANGLES_PER_CLUSTER}
 use Rattle.geom_core.specs.declared.triangles.Tri.{Tri}
 use Rattle.rim_collapse.specs.Moved.{moved_of}
 use Rattle.partition.specs.Batches.{pick}

@@ -1,8 +1,6 @@
 -- The error and the box of a group bound those of the makers of its members.
-use Rattle.std.proofs.Common.{
-  ◌≡◌, ◌∙◌, ◌≤◌, ◌+◌, cond, ℕ, Bool, true, false, ◌&&◌, List, [], ◌∷◌, ◌++◌, flat_map, get_or, All, IfSome, Option,
-  None, Some, refl, subst, arith,
-}
+use Rattle.std.proofs.Common.{◌≡◌, ◌∙◌, ◌≤◌, ◌+◌, cond, ℕ, Bool, true, false, ◌&&◌, List, [], ◌∷◌, ◌++◌, flat_map}
+use Rattle.std.proofs.Common.{get_or, All, IfSome, Option, None, Some, refl, subst, arith}
 use Rattle.std.proofs.lemmas.Bool.{and_from, and_parts}
 use Rattle.std.proofs.lemmas.List.Elements.{All-append, All-cons, All-head, All-map, All-nil, All-tail, All-weaker}
 use Rattle.geom_core.specs.declared.boxes.Cube.{Cube}

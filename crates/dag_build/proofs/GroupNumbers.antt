@@ -1,8 +1,6 @@
 -- The numbers of groups and of their members; a DAG of levels keeps rule 1.
-use Rattle.std.proofs.Common.{
-  ◌≡◌, ◌∙◌, ◌<◌, ◌≤◌, ◌+◌, ◌-◌, inl, inr, zero-add, ℕ, zero, suc, List, [], ◌∷◌, ◌++◌, length, take, get_or, sum_by,
-  refl, sym, ap, arith,
-}
+use Rattle.std.proofs.Common.{◌≡◌, ◌∙◌, ◌<◌, ◌≤◌, ◌+◌, ◌-◌, inl, inr, zero-add, ℕ, zero, suc, List, [], ◌∷◌, ◌++◌}
+use Rattle.std.proofs.Common.{length, take, get_or, sum_by, refl, sym, ap, arith}
 use Rattle.std.proofs.lemmas.Bool.{cases_lt}
 use Rattle.std.proofs.lemmas.List.{length-append}
 use Rattle.std.proofs.lemmas.List.Concat.{get_or-flat_map}

@@ -1,8 +1,6 @@
 -- Levels, one after another.
-use Rattle.std.proofs.Common.{
-  ◌==◌, Bool, true, false, ◌≡◌, ◌≢◌, ◌≤◌, ◌<◌, ◌+◌, ◌*◌, ℕ, List, [], ◌∷◌, ◌++◌, map, length, All, None, refl, sym, ap,
-  ◌∙◌, subst, arith,
-}
+use Rattle.std.proofs.Common.{◌==◌, Bool, true, false, ◌≡◌, ◌≢◌, ◌≤◌, ◌<◌, ◌+◌, ◌*◌, ℕ, List, [], ◌∷◌, ◌++◌, map}
+use Rattle.std.proofs.Common.{length, All, None, refl, sym, ap, ◌∙◌, subst, arith}
 use Rattle.std.proofs.lemmas.Bool.{eqb-true}
 use Rattle.std.proofs.lemmas.List.{length-append, length-map, map-append}
 use Rattle.std.proofs.lemmas.List.Elements.{All-map, All-nil, All-push}
@@ -19,9 +17,8 @@ use Rattle.dag_build.specs.Internal.Groups.{unmade}
 use Rattle.dag_build.proofs.CutLaws.{numbered-tris}
 use Rattle.dag_build.proofs.LevelLaws.{clusters-few, joined-made, level-is, made-proper}
 use Rattle.dag_build.proofs.BatchLaws.{cut-sizes, cut-total}
-use Rattle.dag_build.proofs.NumberLaws.{
-  groups_in-append, groups_in-cons, groups_in-none, members_in-append, members_in-unmade,
-}
+use Rattle.dag_build.proofs.NumberLaws.{groups_in-append, groups_in-cons, groups_in-none, members_in-append}
+use Rattle.dag_build.proofs.NumberLaws.{members_in-unmade}
 
 -- the levels from one with clusters `first` on lead to a level with the clusters `last`
 unfoldable pub LeadTo : Sizes → List LevelCluster → List (List LevelGroup) → List LevelCluster → Type 0

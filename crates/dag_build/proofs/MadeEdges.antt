@@ -1,8 +1,7 @@
 -- Of the clusters of all levels, how many edges those have that a group made.
-use Rattle.std.proofs.Common.{
-  ◌≡◌, ◌∙◌, ◌<◌, ◌≤◌, ◌+◌, ◌==◌, cond, zero-add, ℕ, zero, suc, Bool, true, false, List, [], ◌∷◌, ◌++◌, length, map,
-  filter, flat_map, get_or, sum_by, All, Option, None, Some, refl, sym, ap, subst, arith,
-}
+use Rattle.std.proofs.Common.{◌≡◌, ◌∙◌, ◌<◌, ◌≤◌, ◌+◌, ◌==◌, cond, zero-add, ℕ, zero, suc, Bool, true, false, List, []}
+use Rattle.std.proofs.Common.{◌∷◌, ◌++◌, length, map, filter, flat_map, get_or, sum_by, All, Option, None, Some, refl}
+use Rattle.std.proofs.Common.{sym, ap, subst, arith}
 use Rattle.std.proofs.lemmas.Bool.Decides.{nat_tests}
 use Rattle.std.proofs.lemmas.List.{length-append, map-append}
 use Rattle.std.proofs.lemmas.List.Elements.{All-head, All-tail}

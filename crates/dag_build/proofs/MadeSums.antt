@@ -1,8 +1,6 @@
 -- Built DAGs keep edge sums: what a group made has those of its members.
-use Rattle.std.proofs.Common.{
-  ◌≡◌, ◌∙◌, ◌<◌, ◌+◌, ◌-◌, ◌&&◌, nat_lt, not, inl, inr, zero-add, ℕ, Bool, true, false, List, [], ◌∷◌, ◌++◌, length,
-  map, flat_map, get_or, All, refl, sym, ap, subst, arith,
-}
+use Rattle.std.proofs.Common.{◌≡◌, ◌∙◌, ◌<◌, ◌+◌, ◌-◌, ◌&&◌, nat_lt, not, inl, inr, zero-add, ℕ, Bool, true, false}
+use Rattle.std.proofs.Common.{List, [], ◌∷◌, ◌++◌, length, map, flat_map, get_or, All, refl, sym, ap, subst, arith}
 use Rattle.std.specs.List.{range_with_len}
 use Rattle.std.proofs.lemmas.Bool.{and_parts, cases_lt, false_from_ne_true, false≢true, not_from_true}
 use Rattle.std.proofs.lemmas.Bool.Decides.{nat_tests}
@@ -33,18 +31,14 @@ use Rattle.dag_build.specs.Outcomes.{AreMade, IsOutcome}
 use Rattle.dag_build.proofs.BuiltDags.{AreBuilt, built}
 use Rattle.dag_build.proofs.GroupNumbers.{first_at, group-at, group-count, member-is}
 use Rattle.dag_build.proofs.BatchLaws.{cut-moved}
-use Rattle.dag_build.proofs.Entries.{
-  Entry, HasEntries, entries-clusters, entries-heads, entries_in, entries_of, head_of_entry, mapped-at, tris-in-a-row,
-  tris-passing, tris_of_entry,
-}
+use Rattle.dag_build.proofs.Entries.{Entry, HasEntries, entries-clusters, entries-heads, entries_in, entries_of}
+use Rattle.dag_build.proofs.Entries.{head_of_entry, mapped-at, tris-in-a-row, tris-passing, tris_of_entry}
 use Rattle.dag_build.proofs.GoodLevels.{AreGoodLevels}
 use Rattle.dag_build.proofs.GoodClusters.{group_of_level, no_level_group}
 use Rattle.dag_build.proofs.LevelLaws.{members-moved}
 use Rattle.dag_build.proofs.MadeLaws.{any-none, from-made, is_from}
-use Rattle.dag_build.proofs.MadeEdges.{
-  edges_in, edges_if, passing-edges, made_edges, edges_from, none_after, entries-none, level-edges, levels-none,
-  own-edges, from-edges,
-}
+use Rattle.dag_build.proofs.MadeEdges.{edges_in, edges_if, passing-edges, made_edges, edges_from, none_after}
+use Rattle.dag_build.proofs.MadeEdges.{entries-none, level-edges, levels-none, own-edges, from-edges}
 
 -- ---- all levels
 

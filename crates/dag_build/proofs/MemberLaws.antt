@@ -1,8 +1,6 @@
 -- Lists of members that grow at their end.
-use Rattle.std.proofs.Common.{
-  rules, ◌≡◌, ◌<◌, ◌≤◌, ◌+◌, ℕ, max, List, [], ◌∷◌, ◌++◌, map, flat_map, take, length, get_or, All, IsSome, refl, sym,
-  ap, ◌∙◌, subst, arith,
-}
+use Rattle.std.proofs.Common.{rules, ◌≡◌, ◌<◌, ◌≤◌, ◌+◌, ℕ, max, List, [], ◌∷◌, ◌++◌, map, flat_map, take, length}
+use Rattle.std.proofs.Common.{get_or, All, IsSome, refl, sym, ap, ◌∙◌, subst, arith}
 use Rattle.std.proofs.lemmas.List.{append-nil, length-append, map-append, take_more}
 use Rattle.std.proofs.lemmas.List.Concat.{flat_map-append}
 use Rattle.std.proofs.lemmas.List.Elements.{All-append}

@@ -1,7 +1,6 @@
 -- The numbers of groups and clusters, level by level.
-use Rattle.std.proofs.Common.{
-  zero-add, suc, ◌≡◌, ◌≤◌, ◌+◌, ℕ, List, [], ◌∷◌, ◌++◌, map, length, All, refl, sym, ap, ◌∙◌, subst, arith,
-}
+use Rattle.std.proofs.Common.{zero-add, suc, ◌≡◌, ◌≤◌, ◌+◌, ℕ, List, [], ◌∷◌, ◌++◌, map, length, All, refl, sym, ap}
+use Rattle.std.proofs.Common.{◌∙◌, subst, arith}
 use Rattle.std.proofs.lemmas.List.{append-nil, append_assoc, length-append, length-map, map-append}
 use Rattle.std.proofs.lemmas.List.Concat.{flat_map-append}
 use Rattle.std.proofs.lemmas.List.Elements.{All-head}
@@ -11,9 +10,8 @@ use Rattle.dag_core.specs.declared.cluster_heads.ClusterHead.{ClusterHead}
 use Rattle.dag_core.specs.declared.groups.Group.{Group}
 use Rattle.dag_build.specs.declared.level_clusters.LevelCluster.{LevelCluster}
 use Rattle.dag_build.specs.Levels.{LevelGroup}
-use Rattle.dag_build.specs.Numbers.{
-  clusters_in, dag_from, dag_of, group_head, groups_in, head_of, heads_from, members_in,
-}
+use Rattle.dag_build.specs.Numbers.{clusters_in, dag_from, dag_of, group_head, groups_in, head_of, heads_from}
+use Rattle.dag_build.specs.Numbers.{members_in}
 use Rattle.dag_build.proofs.ElementLaws.{All-second}
 use Rattle.dag_build.specs.Internal.DoneLevels.{AreFewLevels, HasProper}
 use Rattle.dag_build.specs.Internal.Groups.{unmade}

@@ -1,8 +1,6 @@
 -- The rule determines the DAG: a mesh has at most one.
-use Rattle.std.proofs.Common.{
-  ◌≡◌, ◌∙◌, ap, sym, refl, subst, ℕ, Bool, true, false, not, ◌&&◌, List, [], ◌∷◌, length, map, ◌+◌, inl, inr, Option,
-  None, Some, All, cond,
-}
+use Rattle.std.proofs.Common.{◌≡◌, ◌∙◌, ap, sym, refl, subst, ℕ, Bool, true, false, not, ◌&&◌, List, [], ◌∷◌, length}
+use Rattle.std.proofs.Common.{map, ◌+◌, inl, inr, Option, None, Some, All, cond}
 use Rattle.std.proofs.lemmas.Bool.{true≢false}
 use Rattle.std.proofs.lemmas.List.Elements.{All-head, All-tail}
 use Rattle.geom_core.specs.declared.boxes.Cube.{Cube}
@@ -29,9 +27,8 @@ use Rattle.dag_core.specs.declared.dags.Dag.{Dag}
 use Rattle.dag_core.proofs.ListSteps.{same_bools}
 use Rattle.dag_build.specs.declared.level_clusters.LevelCluster.{LevelCluster}
 use Rattle.dag_build.specs.Built.{AreLevels, AreLevelsOf, IsBuilt, IsLevel}
-use Rattle.dag_build.specs.Grouping.{
-  AreCut, AreGrouped, AreShapesOf, IsShapeOf, Sizes, full_sizes, no_cluster, no_triangle,
-}
+use Rattle.dag_build.specs.Grouping.{AreCut, AreGrouped, AreShapesOf, IsShapeOf, Sizes, full_sizes, no_cluster}
+use Rattle.dag_build.specs.Grouping.{no_triangle}
 use Rattle.dag_build.specs.Levels.{LevelGroup, next_clusters, numbered, source_cluster, tris_in}
 use Rattle.dag_build.specs.Numbers.{dag_of}
 use Rattle.dag_build.specs.Outcomes.{AreMade, AreRimPoints, IsOutcome, greatest_error, is_terminal, points_of}

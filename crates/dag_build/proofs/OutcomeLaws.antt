@@ -1,8 +1,6 @@
 -- What becomes of a group.
-use Rattle.std.proofs.Common.{
-  ◌≡◌, ◌≤◌, ◌+◌, ◌*◌, ℕ, Bool, true, false, ◌||◌, nat_lt, if◌then◌else◌, List, map, length, Some, refl, ap, ◌∙◌, subst,
-  arith,
-}
+use Rattle.std.proofs.Common.{◌≡◌, ◌≤◌, ◌+◌, ◌*◌, ℕ, Bool, true, false, ◌||◌, nat_lt, if◌then◌else◌, List, map, length}
+use Rattle.std.proofs.Common.{Some, refl, ap, ◌∙◌, subst, arith}
 use Rattle.std.proofs.lemmas.Bool.Decides.{nat_tests}
 use Rattle.std.proofs.lemmas.List.{length-map}
 use Rattle.geom_core.specs.declared.boxes.Cube.{Cube}

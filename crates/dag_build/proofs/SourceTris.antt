@@ -1,8 +1,6 @@
 -- Built DAGs have each source triangle once, in a leaf; and their corners stay near to those of their source triangles.
-use Rattle.std.proofs.Common.{
-  ◌≡◌, ◌∙◌, ◌<◌, ◌≤◌, ◌+◌, ◌==◌, ◌&&◌, nat_le, nat_lt, not, zero-add, ℕ, Bool, true, false, List, [], ◌∷◌, length,
-  flat_map, get_or, All, Option, None, Some, refl, sym, ap, arith,
-}
+use Rattle.std.proofs.Common.{◌≡◌, ◌∙◌, ◌<◌, ◌≤◌, ◌+◌, ◌==◌, ◌&&◌, nat_le, nat_lt, not, zero-add, ℕ, Bool, true, false}
+use Rattle.std.proofs.Common.{List, [], ◌∷◌, length, flat_map, get_or, All, Option, None, Some, refl, sym, ap, arith}
 use Rattle.std.specs.List.{list_all, range_with_len}
 use Rattle.std.proofs.lemmas.Bool.{and_from, and_parts, false_from_ne_true, false≢true, not_from_true}
 use Rattle.std.proofs.lemmas.Bool.Decides.{nat_tests}
@@ -20,9 +18,8 @@ use Rattle.dag_core.specs.declared.cluster_heads.ClusterHead.{ClusterHead}
 use Rattle.dag_core.specs.declared.dags.Dag.{Dag}
 use Rattle.dag_core.specs.declared.groups.Group.{Group}
 use Rattle.dag_core.specs.declared.heads.Heads.{Heads}
-use Rattle.dag_core.specs.TriangleRules.{
-  breaks_corners, breaks_source, dag_breaks, error_of, error_of_maker, is_near, is_near_source,
-}
+use Rattle.dag_core.specs.TriangleRules.{breaks_corners, breaks_source, dag_breaks, error_of, error_of_maker, is_near}
+use Rattle.dag_core.specs.TriangleRules.{is_near_source}
 use Rattle.dag_core.specs.Triangles.{leaf_tris_from, source_of, tris_at}
 use Rattle.dag_build.specs.declared.level_clusters.LevelCluster.{LevelCluster}
 use Rattle.dag_build.specs.declared.level_clusters.Maker.{Maker}

@@ -1,8 +1,6 @@
 -- What becomes of a group: how its members are simplified, whether it is terminal, and what it makes.
-use Rattle.std.specs.Prelude.{
-  ◌≡◌, ◌↔◌, Bool, true, false, ◌||◌, ◌+◌, ◌*◌, ℕ, nat_lt, IsTrue, List, [], ◌∷◌, ◌++◌, length, map, flat_map, max,
-  Option, Some, None, if◌then◌else◌,
-}
+use Rattle.std.specs.Prelude.{◌≡◌, ◌↔◌, Bool, true, false, ◌||◌, ◌+◌, ◌*◌, ℕ, nat_lt, IsTrue, List, [], ◌∷◌, ◌++◌}
+use Rattle.std.specs.Prelude.{length, map, flat_map, max, Option, Some, None, if◌then◌else◌}
 use Rattle.geom_core.specs.declared.limits.TheConstants.{MAX_ERROR}
 use Rattle.geom_core.specs.declared.points.Pt.{Pt}
 use Rattle.geom_core.specs.declared.triangles.Tri.{Tri}

@@ -1,9 +1,8 @@
 -- Closing a set of pages: the uppers of a page are marked by a chain of clusters, and pages are judged in falling
 -- order.
-use Rattle.std.proofs.Common.{
-  ◌≡◌, ◌==◌, ◌<◌, ◌≤◌, ◌+◌, ◌⊎◌, ◌≢◌, ℕ, zero, suc, Bool, true, false, not, ◌&&◌, ◌||◌, cond, List, [], ◌∷◌, ◌++◌,
-  length, get_or, map, filter, Option, Some, None, ap, sym, ◌∙◌, refl, arith, subst, inl, inr, nat_le, nat_lt, zero-add,
-}
+use Rattle.std.proofs.Common.{◌≡◌, ◌==◌, ◌<◌, ◌≤◌, ◌+◌, ◌⊎◌, ◌≢◌, ℕ, zero, suc, Bool, true, false, not, ◌&&◌, ◌||◌}
+use Rattle.std.proofs.Common.{cond, List, [], ◌∷◌, ◌++◌, length, get_or, map, filter, Option, Some, None, ap, sym, ◌∙◌}
+use Rattle.std.proofs.Common.{refl, arith, subst, inl, inr, nat_le, nat_lt, zero-add}
 use Rattle.std.specs.List.{list_any, range_with_len}
 use Rattle.std.proofs.lemmas.Bool.{and_parts, and_from, cases_lt, false≢true}
 use Rattle.std.proofs.lemmas.Bool.Decides.{nat_tests}
@@ -19,9 +18,8 @@ use Rattle.dag_core.specs.PageSets.{IsLeastClosed, coarse_pages, has_page}
 use Rattle.dag_core.specs.Pages.{has_terminal_on, is_maker_on, is_upper, page_of_cluster, tris_on, uppers_of}
 use Rattle.dag_core.specs.Ranges.{IsInRange, is_count_to}
 use Rattle.dag_core.specs.Rules.{Checked}
-use Rattle.dag_core.specs.Internal.Marks.{
-  IsClosureOf, entry_of, is_made_onto, is_marked, last_made, made_before, maker_page, marked_of,
-}
+use Rattle.dag_core.specs.Internal.Marks.{IsClosureOf, entry_of, is_made_onto, is_marked, last_made, made_before}
+use Rattle.dag_core.specs.Internal.Marks.{maker_page, marked_of}
 use Rattle.dag_core.specs.Internal.Tables.{is_bad_page}
 use Rattle.dag_core.proofs.HalvingLaws.{checked_in_turn}
 use Rattle.dag_core.proofs.ListSteps.{list_any-filter, range_any, range_found, same_bools}
@@ -191,7 +189,7 @@ chain_before heads c page told entries before range below same table tells table
     ap (λ xs. xs ++ told ∷ []) table_before
     ∙ (ap (λ o. map (λ k. made_before heads k (cluster_at heads k).made) (range_with_len 0 c) ++ o ∷ [])
     (tells ∙ (ap (entry_of entries) same ∙ entry_before heads c (cluster_at heads c).made entries range
-        (λ m made. maker_below heads c m range below made) table))
+    (λ m made. maker_below heads c m range below made) table))
     ∙ sym (map-range_with_len_more (λ k. made_before heads k (cluster_at heads k).made) 0 c c (zero-add c)))
 
 -- a walk down the chain of page p: what was marked stays, what is new has a cluster that a group of p made, and of
@@ -228,9 +226,9 @@ pub onto_from : (heads : Heads) (p c : ℕ) → c < length heads.clusters →
 unfolding is_made_onto
 onto_from heads p c below maker =
     range_any (λ k. is_maker_on heads p (cluster_at heads k).made && page_of_cluster heads k == page_of_cluster heads c)
-        (length heads.clusters) c below
+    (length heads.clusters) c below
     (and_from (is_maker_on heads p (cluster_at heads c).made) (page_of_cluster heads c == page_of_cluster heads c) maker
-        (same_number (page_of_cluster heads c)))
+    (same_number (page_of_cluster heads c)))
 
 pub walk_starts : (heads : Heads) (p : ℕ) (marks : List Bool) (next : Option ℕ) →
     next ≡ last_made heads p (length heads.clusters) → IsChainWalk heads p marks marks next
@@ -259,7 +257,7 @@ walk_smaller heads p c old new next after walk is before =
     let last = last_found heads p walk.end c (sym walk.at ∙ is) in
     let e : left_of next ≡ suc c = ap left_of is in
     let same : left_of after ≡ left_of (last_made heads p c) =
-        ap left_of (before ∙ before_is heads p c (cluster_at heads c).made last.maker) in
+    ap left_of (before ∙ before_is heads p c (cluster_at heads c).made last.maker) in
     let less = left_less heads p c in
     omega arith
 
@@ -302,8 +300,10 @@ pub walk_marks : (heads : Heads) (p c page : ℕ) (old new newer : List Bool) (n
     after ≡ made_before heads c (cluster_at heads c).made → IsChainWalk heads p old newer after
 walk_marks heads p c page old new newer next after walk is here marked before =
     walk_steps heads p c page old new newer after (subst (λ o. IsChainWalk heads p old new o) is walk) here
-    (λ q. (λ set. cases q (or_cases (is_marked new q) (page == q) (sym (marked q) ∙ set)), λ was. marked q ∙
-        or_old (is_marked new q) (page == q) was))
+    (λ q. (
+      λ set. cases q (or_cases (is_marked new q) (page == q) (sym (marked q) ∙ set)),
+      λ was. marked q ∙ or_old (is_marked new q) (page == q) was,
+    ))
     (marked page ∙ or_new (is_marked new page) (page == page) (same_number page)) before
   where
     cases : (q : ℕ) → (is_marked new q ≡ true) ⊎ ((page == q) ≡ true) → (is_marked new q ≡ true) ⊎ (q ≡ page)
@@ -320,13 +320,13 @@ walk_ends heads p old new walk q =
       | inl was ↦ walk.kept q was
       | inr onto ↦
           let found =
-              range_found (λ c. is_maker_on heads p (cluster_at heads c).made && page_of_cluster heads c == q)
-              (length heads.clusters) onto in
+          range_found (λ c. is_maker_on heads p (cluster_at heads c).made && page_of_cluster heads c == q)
+          (length heads.clusters) onto in
           let both =
-              and_parts (is_maker_on heads p (cluster_at heads found.number).made)
-              (page_of_cluster heads found.number == q) found.passes in
+          and_parts (is_maker_on heads p (cluster_at heads found.number).made)
+          (page_of_cluster heads found.number == q) found.passes in
           subst (λ k. is_marked new k ≡ true) (same_page (page_of_cluster heads found.number) q both.1)
-              (reached found.number found.below both.0)
+          (reached found.number found.below both.0)
     ])
   where
     reached : (c : ℕ) → c < length heads.clusters → is_maker_on heads p (cluster_at heads c).made ≡ true →
@@ -343,11 +343,11 @@ pub onto_upper : (heads : Heads) (p q : ℕ) → is_made_onto heads p q ≡ true
 unfolding is_made_onto
 onto_upper heads p q onto =
     let found =
-        range_found (λ c. is_maker_on heads p (cluster_at heads c).made && page_of_cluster heads c == q)
-        (length heads.clusters) onto in
+    range_found (λ c. is_maker_on heads p (cluster_at heads c).made && page_of_cluster heads c == q)
+    (length heads.clusters) onto in
     let both =
-        and_parts (is_maker_on heads p (cluster_at heads found.number).made)
-        (page_of_cluster heads found.number == q) found.passes in
+    and_parts (is_maker_on heads p (cluster_at heads found.number).made)
+    (page_of_cluster heads found.number == q) found.passes in
     let page = same_page (page_of_cluster heads found.number) q both.1 in
     elim (cases_eq q p) [
       | inl same ↦ inl same
@@ -405,12 +405,12 @@ judged_marked heads start marks newer judged p range checked before at is_set ma
   kept = λ q is. stays q (before.kept q is);
   owed =
       λ others seeded closed q is. elim (or_cases (is_marked marks q) (is_made_onto heads p q) (sym (marked q) ∙ is)) [
-    | inl was ↦ before.owed others seeded closed q was
-    | inr onto ↦ elim (onto_upper heads p q onto) [
-      | inl same ↦ before.owed others seeded closed q (subst (λ k. is_marked marks k ≡ true) (sym same) is_set)
-      | inr upper ↦ closed p q (before.owed others seeded closed p is_set) upper
-    ]
-  ];
+        | inl was ↦ before.owed others seeded closed q was
+        | inr onto ↦ elim (onto_upper heads p q onto) [
+          | inl same ↦ before.owed others seeded closed q (subst (λ k. is_marked marks k ≡ true) (sym same) is_set)
+          | inr upper ↦ closed p q (before.owed others seeded closed p is_set) upper
+        ]
+      ];
   closed = λ r q from below is upper. elim (cases_lt p r) [
     | inl later ↦ elim (or_cases (is_marked marks r) (is_made_onto heads p r) (sym (marked r) ∙ is)) [
       | inl was ↦ stays q (before.closed r q (omega arith) below was upper)
@@ -422,7 +422,7 @@ judged_marked heads start marks newer judged p range checked before at is_set ma
     | inr here ↦
         let e : r ≡ p = omega arith in
         marked q ∙ or_new (is_marked marks q) (is_made_onto heads p q)
-            (upper_onto heads p q (subst (λ k. is_upper heads k q ≡ true) e upper))
+        (upper_onto heads p q (subst (λ k. is_upper heads k q ≡ true) e upper))
   ];
 }
   where
@@ -435,7 +435,7 @@ pub closure_from : (heads : Heads) (start marks : List Bool) (pages : List ℕ) 
     IsJudged heads start marks heads.pages → pages ≡ marked_of marks → IsClosureOf heads start pages
 closure_from heads start marks pages range checked count judged is =
     let same : pages ≡ filter (is_marked marks) (range_with_len 0 heads.pages) =
-        is ∙ ap (λ n. filter (is_marked marks) (range_with_len 0 n)) count in
+    is ∙ ap (λ n. filter (is_marked marks) (range_with_len 0 n)) count in
     subst (λ (xs : List ℕ). IsClosureOf heads start xs) (sym same) (record {
       marked =
           λ p set. let is_set = judged.kept p set in filter_has (is_marked marks) heads.pages p

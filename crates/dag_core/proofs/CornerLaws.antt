@@ -1,8 +1,6 @@
 -- The triangles of a sound DAG lie near their source triangles.
-use Rattle.std.proofs.Common.{
-  ◌≡◌, ◌==◌, ◌<◌, ◌+◌, ◌∙◌, ◌++◌, ◌∷◌, [], ap, sym, refl, subst, flat_map, ℕ, zero, suc, Bool, true, false, not, ◌&&◌,
-  List, length, nat_lt, All, arith, get_or, slice_index_or,
-}
+use Rattle.std.proofs.Common.{◌≡◌, ◌==◌, ◌<◌, ◌+◌, ◌∙◌, ◌++◌, ◌∷◌, [], ap, sym, refl, subst, flat_map, ℕ, zero, suc}
+use Rattle.std.proofs.Common.{Bool, true, false, not, ◌&&◌, List, length, nat_lt, All, arith, get_or, slice_index_or}
 use Rattle.std.specs.List.{list_all, range_with_len}
 use Rattle.std.proofs.lemmas.Bool.{and_parts}
 use Rattle.std.proofs.lemmas.Bool.Decides.{nat_tests}
@@ -16,9 +14,8 @@ use Rattle.geom_core.specs.declared.triangles.Tagged.{Tagged}
 use Rattle.geom_core.specs.TaggedLists.{tris_of}
 use Rattle.dag_core.specs.declared.dags.Dag.{Dag}
 use Rattle.dag_core.specs.Cuts.{IsNearSource}
-use Rattle.dag_core.specs.TriangleRules.{
-  IsSourcedTriangle, Sound, breaks_corners, breaks_source, error_of, is_near, is_near_source,
-}
+use Rattle.dag_core.specs.TriangleRules.{IsSourcedTriangle, Sound, breaks_corners, breaks_source, error_of, is_near}
+use Rattle.dag_core.specs.TriangleRules.{is_near_source}
 use Rattle.dag_core.specs.Triangles.{leaf_tris_from, source_of, tris_at}
 use Rattle.dag_core.proofs.CutEdgeLaws.{all_at}
 use Rattle.dag_core.proofs.ListSteps.{range_more}

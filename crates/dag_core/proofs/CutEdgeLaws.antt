@@ -1,8 +1,7 @@
 -- The cuts of a sound DAG over closed sets of pages have the edge sums of the source mesh.
-use Rattle.std.proofs.Common.{
-  ◌≡◌, ◌<◌, ◌+◌, ◌∙◌, ◌++◌, ◌∷◌, [], ap, sym, refl, subst, filter, map, flat_map, inl, inr, ℕ, ℤ, pos, Bool, true,
-  false, not, ◌&&◌, List, length, nat_lt, Option, None, Some, is_none, All, arith, cond, slice_index_or,
-}
+use Rattle.std.proofs.Common.{◌≡◌, ◌<◌, ◌+◌, ◌∙◌, ◌++◌, ◌∷◌, [], ap, sym, refl, subst, filter, map, flat_map, inl, inr}
+use Rattle.std.proofs.Common.{ℕ, ℤ, pos, Bool, true, false, not, ◌&&◌, List, length, nat_lt, Option, None, Some}
+use Rattle.std.proofs.Common.{is_none, All, arith, cond, slice_index_or}
 use Rattle.std.specs.List.{enumerate_from}
 use Rattle.std.proofs.lemmas.Bool.{cases_lt, false_from_ne_true, true≢false}
 use Rattle.std.proofs.lemmas.Bool.Decides.{nat_tests}

@@ -1,10 +1,8 @@
 -- Worked examples of cuts and of sets of pages, computed by the checker: the two squares, a chain, and groups that
 -- share
 -- a page.
-use Rattle.std.proofs.Common.{
-  ◌≡◌, ◌<◌, ◌+◌, ◌⊎◌, ℕ, zero, suc, true, false, Some, List, [], ◌∷◌, ◌++◌, map, get_or, IsTrue, refl, arith, sym,
-  subst, inl, inr,
-}
+use Rattle.std.proofs.Common.{◌≡◌, ◌<◌, ◌+◌, ◌⊎◌, ℕ, zero, suc, true, false, Some, List, [], ◌∷◌, ◌++◌, map, get_or}
+use Rattle.std.proofs.Common.{IsTrue, refl, arith, sym, subst, inl, inr}
 use Rattle.std.specs.List.{range_with_len}
 use Rattle.std.proofs.lemmas.Bool.{cases_lt}
 use Rattle.std.proofs.lemmas.Bool.Decides.{nat_tests}
@@ -21,10 +19,8 @@ use Rattle.dag_core.specs.Members.{cluster_at, group_at, home}
 use Rattle.dag_core.specs.PageSets.{IsNeed, above_of, coarse_pages, has_page, missing_of}
 use Rattle.dag_core.specs.Pages.{has_terminal_on, is_upper, tris_on}
 use Rattle.dag_core.specs.Ranges.{IsInRange}
-use Rattle.dag_core.specs.Rules.{
-  Checked, breaks_bound, breaks_maker, breaks_members, breaks_page, breaks_terminal, has_made, is_outgrown,
-  members_before,
-}
+use Rattle.dag_core.specs.Rules.{Checked, breaks_bound, breaks_maker, breaks_members, breaks_page, breaks_terminal}
+use Rattle.dag_core.specs.Rules.{has_made, is_outgrown, members_before}
 use Rattle.dag_core.specs.Triangles.{tris_at}
 use Rattle.dag_core.specs.Internal.RangeTests.{are_counts_in_range, is_cluster_in_range, is_group_in_range}
 use Rattle.dag_core.proofs.Examples.{chain_of}
@@ -32,9 +28,8 @@ use Rattle.dag_core.proofs.HalvingLaws.{checked_in_turn}
 use Rattle.dag_core.proofs.PageSetLaws.{all_pages_closed, below_all}
 use Rattle.dag_core.proofs.RangeTestLaws.{range_from}
 use Rattle.dag_core.proofs.RuleLaws.{bound_beyond, maker_beyond, members_beyond, page_beyond, terminal_beyond}
-use Rattle.dag_core.proofs.TwoSquares.{
-  coarse_square, fine_square, flat_point, leaf_of_four, left, made_of_two, right, two_squares, two_squares_heads, whole,
-}
+use Rattle.dag_core.proofs.TwoSquares.{coarse_square, fine_square, flat_point, leaf_of_four, left, made_of_two, right}
+use Rattle.dag_core.proofs.TwoSquares.{two_squares, two_squares_heads, whole}
 use Rattle.dag_core.proofs.TwoSquaresLaws.{checked_from, none_from_search}
 
 -- a lens whose eye is the middle of square 1, with this focal length and tolerance
@@ -130,7 +125,7 @@ path_of_square_1 = record {
   ];
   end = λ k last. let e : k ≡ 1 = omega arith in
       subst (λ n. IsTrue (group_at two_squares_heads (home two_squares_heads (get_or (2 ∷ 0 ∷ []) n 0))).terminal)
-          (sym e) refl;
+      (sym e) refl;
 }
   where
     two_numbers : (P : ℕ → Type 0) → P 0 → P 1 → (k : ℕ) → k < 2 → P k
@@ -170,7 +165,7 @@ unfolding home tris_on has_terminal_on is_upper members_before breaks_members br
 shared_page_checked =
     checked_from shared_page
     (none_from_search (breaks_members shared_page) 5 refl
-        (λ place from. members_beyond shared_page place (omega arith)))
+    (λ place from. members_beyond shared_page place (omega arith)))
     (none_from_search (breaks_maker shared_page) 5 refl (λ place from. maker_beyond shared_page place from))
     (none_from_search (breaks_terminal shared_page) 4 refl (λ place from. terminal_beyond shared_page place from))
     (none_from_search (breaks_bound shared_page) 5 refl (λ place from. bound_beyond shared_page place from))

@@ -1,7 +1,6 @@
 -- Where a premise of a law of cuts is missing, the law is false: an example of each, computed by the checker.
-use Rattle.std.proofs.Common.{
-  ◌≡◌, ◌<◌, ◌+◌, ℕ, zero, suc, ℤ, pos, true, false, Some, List, [], ◌∷◌, map, get_or, IsTrue, refl, arith,
-}
+use Rattle.std.proofs.Common.{◌≡◌, ◌<◌, ◌+◌, ℕ, zero, suc, ℤ, pos, true, false, Some, List, [], ◌∷◌, map, get_or}
+use Rattle.std.proofs.Common.{IsTrue, refl, arith}
 use Rattle.std.specs.List.{range_with_len}
 use Rattle.geom_core.specs.declared.boxes.Cube.{Cube}
 use Rattle.geom_core.specs.declared.views.Lens.{Lens}
@@ -15,10 +14,8 @@ use Rattle.dag_core.specs.Cuts.{IsPath, MeetsOnce, cut_of, cut_tris, is_open}
 use Rattle.dag_core.specs.Members.{cluster_at, group_at, home}
 use Rattle.dag_core.specs.Pages.{has_terminal_on, is_upper, tris_on}
 use Rattle.dag_core.specs.Ranges.{IsInRange}
-use Rattle.dag_core.specs.Rules.{
-  Checked, breaks_bound, breaks_maker, breaks_members, breaks_page, breaks_terminal, has_made, is_outgrown,
-  members_before,
-}
+use Rattle.dag_core.specs.Rules.{Checked, breaks_bound, breaks_maker, breaks_members, breaks_page, breaks_terminal}
+use Rattle.dag_core.specs.Rules.{has_made, is_outgrown, members_before}
 use Rattle.dag_core.specs.TriangleRules.{is_near}
 use Rattle.dag_core.specs.Triangles.{source_of, tris_at}
 use Rattle.dag_core.specs.Internal.RangeTests.{are_counts_in_range, is_cluster_in_range, is_group_in_range}
@@ -26,9 +23,8 @@ use Rattle.dag_core.proofs.CutExamples.{lens_of}
 use Rattle.dag_core.proofs.Examples.{chain_of}
 use Rattle.dag_core.proofs.RangeTestLaws.{range_from}
 use Rattle.dag_core.proofs.RuleLaws.{bound_beyond, maker_beyond, members_beyond, page_beyond, terminal_beyond}
-use Rattle.dag_core.proofs.TwoSquares.{
-  corner_a, corner_b, corner_c, flat_point, left, right, two_squares, two_squares_heads,
-}
+use Rattle.dag_core.proofs.TwoSquares.{corner_a, corner_b, corner_c, flat_point, left, right, two_squares}
+use Rattle.dag_core.proofs.TwoSquares.{two_squares_heads}
 use Rattle.dag_core.proofs.TwoSquaresLaws.{checked_from, none_from_search}
 
 -- ---- coarse

@@ -1,7 +1,6 @@
 -- A cut by marks on the open groups.
-use Rattle.std.proofs.Common.{
-  ◌≡◌, ◌<◌, Bool, false, not, ◌&&◌, ℕ, List, length, get_or, map, Option, Some, None, ap, ◌∙◌, refl,
-}
+use Rattle.std.proofs.Common.{◌≡◌, ◌<◌, Bool, false, not, ◌&&◌, ℕ, List, length, get_or, map, Option, Some, None, ap}
+use Rattle.std.proofs.Common.{◌∙◌, refl}
 use Rattle.std.specs.List.{range_with_len}
 use Rattle.geom_core.specs.declared.views.Lens.{Lens}
 use Rattle.dag_core.specs.declared.cluster_heads.ClusterHead.{ClusterHead}
@@ -46,7 +45,7 @@ drawn_by heads lens resident marks c h cluster told range turn table here same b
     ∙ (ap (λ g. is_marked marks g && not (is_marked_maker marks (cluster_at heads c).made)) here
     ∙ (ap (λ b. b && not (is_marked_maker marks (cluster_at heads c).made))
     (table_at (is_open heads lens resident) (length heads.groups) marks (home heads c) false table
-        (home_below heads c turn below))
+    (home_below heads c turn below))
     ∙ ap (λ b. is_open heads lens resident (home heads c) && not b)
     (maker_marked heads lens resident marks (cluster_at heads c).made table
-        (λ m made. maker_below heads c m range below made)))))
+    (λ m made. maker_below heads c m range below made)))))

@@ -1,10 +1,9 @@
 -- The weight of a cut: whatever groups are open, as long as terminal ones are, and the homes of clusters whose makers
 -- are,
 -- it is that of the members of the terminal groups.
-use Rattle.std.proofs.Common.{
-  ◌≡◌, ◌==◌, ◌<◌, ◌≤◌, ◌+◌, ◌∙◌, ◌++◌, ◌∷◌, [], ap, sym, refl, subst, filter, map, ℕ, zero, suc, ℤ, pos, ◌+ℤ◌, Bool,
-  true, false, not, ◌&&◌, List, length, Option, None, Some, All, arith, cond,
-}
+use Rattle.std.proofs.Common.{◌≡◌, ◌==◌, ◌<◌, ◌≤◌, ◌+◌, ◌∙◌, ◌++◌, ◌∷◌, [], ap, sym, refl, subst, filter, map, ℕ, zero}
+use Rattle.std.proofs.Common.{suc, ℤ, pos, ◌+ℤ◌, Bool, true, false, not, ◌&&◌, List, length, Option, None, Some, All}
+use Rattle.std.proofs.Common.{arith, cond}
 use Rattle.std.specs.List.{range_with_len}
 use Rattle.std.proofs.lemmas.Int.{ints}
 use Rattle.std.proofs.lemmas.Bool.{true≢false}
@@ -17,9 +16,8 @@ use Rattle.dag_core.specs.Ranges.{IsInRange}
 use Rattle.dag_core.specs.Rules.{members_before}
 use Rattle.dag_core.proofs.MemberLaws.{AreMembersInTurn, first_is, home_is, members_are_all, members_more, members_none}
 use Rattle.dag_core.proofs.RangeLaws.{maker_below}
-use Rattle.dag_core.proofs.WeightSums.{
-  if_so, weigh, weigh-alike, weigh-append, weigh-filter, weigh-if_so, weigh-more, weigh-nothing, weigh-one, weigh-plus,
-}
+use Rattle.dag_core.proofs.WeightSums.{if_so, weigh, weigh-alike, weigh-append, weigh-filter, weigh-if_so, weigh-more}
+use Rattle.dag_core.proofs.WeightSums.{weigh-nothing, weigh-one, weigh-plus}
 
 -- the maker is one of the open groups
 abbrev pub is_made_open : (ℕ → Bool) → Option ℕ → Bool

@@ -13,22 +13,17 @@ use Rattle.dag_core.specs.declared.heads.Heads.{Heads}
 use Rattle.dag_core.specs.declared.dags.Dag.{Dag}
 use Rattle.dag_core.specs.Members.{members, home, made_by}
 use Rattle.dag_core.specs.Pages.{clusters_on, tris_on, has_terminal_on, is_upper, uppers_of}
-use Rattle.dag_core.specs.Ranges.{
-  is_count_in_range, is_error, is_group_box, is_page, are_members, is_group_or_none, is_cluster_size,
-}
+use Rattle.dag_core.specs.Ranges.{is_count_in_range, is_error, is_group_box, is_page, are_members, is_group_or_none}
+use Rattle.dag_core.specs.Ranges.{is_cluster_size}
 use Rattle.dag_core.specs.declared.counts.Counts.{Counts}
-use Rattle.dag_core.specs.Rules.{
-  members_before, breaks_members, breaks_maker, has_made, breaks_terminal, is_outgrown, breaks_bound, breaks_page,
-  breaks,
-}
+use Rattle.dag_core.specs.Rules.{members_before, breaks_members, breaks_maker, has_made, breaks_terminal, is_outgrown}
+use Rattle.dag_core.specs.Rules.{breaks_bound, breaks_page, breaks}
 use Rattle.dag_core.specs.Triangles.{leaves, source_of, HasTris}
-use Rattle.dag_core.specs.TriangleRules.{
-  have_same_sums, breaks_sums, breaks_source, is_near, is_near_source, breaks_corners, dag_breaks,
-}
-use Rattle.dag_core.proofs.TwoSquares.{
-  flat_point, sourced, corner_a, corner_b, corner_c, corner_d, middle, fine_square, coarse_square, whole, left, right,
-  made_of_two, leaf_of_four, two_squares_clusters, two_squares_heads, two_squares,
-}
+use Rattle.dag_core.specs.TriangleRules.{have_same_sums, breaks_sums, breaks_source, is_near, is_near_source}
+use Rattle.dag_core.specs.TriangleRules.{breaks_corners, dag_breaks}
+use Rattle.dag_core.proofs.TwoSquares.{flat_point, sourced, corner_a, corner_b, corner_c, corner_d, middle, fine_square}
+use Rattle.dag_core.proofs.TwoSquares.{coarse_square, whole, left, right, made_of_two, leaf_of_four}
+use Rattle.dag_core.proofs.TwoSquares.{two_squares_clusters, two_squares_heads, two_squares}
 
 abbrev heads_of : List Group → List ClusterHead → Heads
 heads_of groups clusters = record { groups = groups; clusters = clusters; pages = 3; roots = 1; sources = 8 }
@@ -126,7 +121,7 @@ box_reaches_out = refl
 abbrev pub chain_of : ℕ → ℕ → ℕ → Heads
 chain_of a b c =
     heads_of (record whole { error = a; count = 1 } ∷ record left { error = b; first = 1 } ∷ record left
-        { error = c; page = 2; first = 2 } ∷ [])
+    { error = c; page = 2; first = 2 } ∷ [])
     (made_of_two 1 ∷ made_of_two 2 ∷ leaf_of_four ∷ [])
 
 -- rule 4: an error greater than the home's; an equal one is none, nor any error under a terminal home
@@ -151,8 +146,13 @@ page_without_triangles = refl
 -- rule 5: both sides of the most triangles
 abbrev one_page : ℕ → Heads
 one_page tris =
-    record { groups = record whole { count = 1 } ∷ []; clusters = record { made = None; tris = tris } ∷ []; pages =
-    1; roots = 1; sources = 1 }
+    record {
+      groups = record whole { count = 1 } ∷ [];
+      clusters = record { made = None; tris = tris } ∷ [];
+      pages = 1;
+      roots = 1;
+      sources = 1;
+    }
 
 pub page_of_1638 : broken_at 5 3 (one_page 1638) ≡ nowhere
 unfolding home tris_on has_terminal_on is_upper breaks_page

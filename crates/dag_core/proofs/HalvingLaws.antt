@@ -1,8 +1,6 @@
 -- The home of a cluster, by halving: the last group whose first member isn't after it.
-use Rattle.std.proofs.Common.{
-  ◌≡◌, ◌<◌, ◌≤◌, ◌+◌, ◌-◌, ℕ, zero, suc, List, length, get_or, ap, sym, ◌∙◌, subst, arith, inl, inr, true, false, leb,
-  leb-true, leb-false,
-}
+use Rattle.std.proofs.Common.{◌≡◌, ◌<◌, ◌≤◌, ◌+◌, ◌-◌, ℕ, zero, suc, List, length, get_or, ap, sym, ◌∙◌, subst, arith}
+use Rattle.std.proofs.Common.{inl, inr, true, false, leb, leb-true, leb-false}
 use Rattle.std.specs.List.Sorted.{IsNonDecreasingBy, IsPartitionedBy, IsPartitionPoint}
 use Rattle.std.proofs.lemmas.List.{get_or_default}
 use Rattle.std.proofs.lemmas.List.Sorted.{IsPartitionedBy-leb}
@@ -11,9 +9,8 @@ use Rattle.dag_core.specs.declared.groups.Group.{Group}
 use Rattle.dag_core.specs.declared.heads.Heads.{Heads}
 use Rattle.dag_core.specs.Members.{group_at, home, no_group}
 use Rattle.dag_core.specs.Rules.{Checked, members_before}
-use Rattle.dag_core.proofs.MemberLaws.{
-  AreMembersInTurn, first_is, home_is, members_are_all, members_more, members_none, members_rise_to,
-}
+use Rattle.dag_core.proofs.MemberLaws.{AreMembersInTurn, first_is, home_is, members_are_all, members_more, members_none}
+use Rattle.dag_core.proofs.MemberLaws.{members_rise_to}
 
 pub checked_in_turn : (heads : Heads) → Checked heads → AreMembersInTurn heads
 checked_in_turn heads checked = λ g. checked 1 g
@@ -76,7 +73,7 @@ home_found heads groups after c same turn some below within point =
     home_is_last heads after c turn some below (omega arith)
     (λ k before. leb-true (group_at heads k).first c
     (subst (λ (gs : List Group). leb (get_or gs k no_group).first c ≡ true) same
-        (point.0 k no_group (omega arith) before)))
+    (point.0 k no_group (omega arith) before)))
     (λ k from less. leb-false (group_at heads k).first c
     (subst (λ (gs : List Group). leb (get_or gs k no_group).first c ≡ false) same
-        (point.1 k no_group from (omega arith))))
+    (point.1 k no_group from (omega arith))))

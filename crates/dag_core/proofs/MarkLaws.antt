@@ -1,8 +1,7 @@
 -- Marked numbers: filters of a range, what is in them, and that they ascend.
-use Rattle.std.proofs.Common.{
-  ◌≡◌, ◌==◌, ◌<◌, ◌≤◌, ◌+◌, ℕ, zero, suc, Bool, true, false, ◌&&◌, cond, List, [], ◌∷◌, ◌++◌, length, get_or, filter,
-  Result, Ok, Err, MatchResult, is_ok, ap, sym, ◌∙◌, refl, arith, subst, inl, inr, append-nil,
-}
+use Rattle.std.proofs.Common.{◌≡◌, ◌==◌, ◌<◌, ◌≤◌, ◌+◌, ℕ, zero, suc, Bool, true, false, ◌&&◌, cond, List, [], ◌∷◌}
+use Rattle.std.proofs.Common.{◌++◌, length, get_or, filter, Result, Ok, Err, MatchResult, is_ok, ap, sym, ◌∙◌, refl}
+use Rattle.std.proofs.Common.{arith, subst, inl, inr, append-nil}
 use Rattle.std.specs.List.{range_with_len}
 use Rattle.std.specs.List.Sorted.{IsBinarySearchResult, IsStrictlyIncreasing}
 use Rattle.std.specs.Ordering.{nat_cmp}
@@ -86,7 +85,7 @@ pub marked_is : (f : ℕ → Bool) (marks : List Bool) (n : ℕ) → length mark
     marked_of marks ≡ filter f (range_with_len 0 n)
 marked_is f marks n count each =
     ap (λ m. filter (is_marked marks) (range_with_len 0 m)) count ∙
-        filter_same (is_marked marks) f n (λ k below. each k)
+    filter_same (is_marked marks) f n (λ k below. each k)
 
 -- ---- a search of pages that ascend
 

@@ -1,8 +1,6 @@
 -- Where rule 1 is kept, the groups' members follow one another: each cluster has a home, and only one.
-use Rattle.std.proofs.Common.{
-  ◌≡◌, ◌<◌, ◌≤◌, ◌+◌, ◌-◌, ℕ, zero, suc, true, false, ◌++◌, ◌∷◌, [], length, map, refl, subst, arith, inl, inr,
-  zero-add,
-}
+use Rattle.std.proofs.Common.{◌≡◌, ◌<◌, ◌≤◌, ◌+◌, ◌-◌, ℕ, zero, suc, true, false, ◌++◌, ◌∷◌, [], length, map, refl}
+use Rattle.std.proofs.Common.{subst, arith, inl, inr, zero-add}
 use Rattle.std.specs.List.{range_with_len, position_or_len}
 use Rattle.std.proofs.lemmas.Bool.{cases_lt}
 use Rattle.std.proofs.lemmas.Bool.Decides.{nat_tests}
@@ -120,7 +118,7 @@ pub home_has : (heads : Heads) (c : ℕ) → AreMembersInTurn heads → c < leng
 unfolding home
 home_has heads c turn below =
     member_from c (group_at heads (home heads c))
-        (passes_at_first (has_member c) heads.groups no_group (home_below heads c turn below))
+    (passes_at_first (has_member c) heads.groups no_group (home_below heads c turn below))
 
 -- the homes of the clusters before c, and c's
 pub homes_more : (heads : Heads) (c : ℕ) →

@@ -1,8 +1,6 @@
 -- What a lens needs is enough: more pages than these change no cut.
-use Rattle.std.proofs.Common.{
-  ◌≡◌, ◌==◌, ◌<◌, ◌+◌, ◌∙◌, ◌++◌, ◌∷◌, [], ap, sym, refl, filter, ℕ, zero, suc, Bool, true, false, not, ◌&&◌, ◌||◌,
-  List, length, map, Option, None, Some, arith, cond,
-}
+use Rattle.std.proofs.Common.{◌≡◌, ◌==◌, ◌<◌, ◌+◌, ◌∙◌, ◌++◌, ◌∷◌, [], ap, sym, refl, filter, ℕ, zero, suc, Bool, true}
+use Rattle.std.proofs.Common.{false, not, ◌&&◌, ◌||◌, List, length, map, Option, None, Some, arith, cond}
 use Rattle.std.specs.List.{list_any, range_with_len}
 use Rattle.std.proofs.lemmas.Bool.{and_from, false≢true}
 use Rattle.std.proofs.lemmas.Bool.Decides.{nat_tests}

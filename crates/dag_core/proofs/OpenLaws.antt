@@ -1,10 +1,8 @@
 -- Which groups are open: a greater error in a wider box stays coarse, terminal groups are open over closed sets of
 -- pages,
 -- and so is the home of a cluster whose maker is open.
-use Rattle.std.proofs.Common.{
-  ◌≡◌, ◌==◌, ◌<◌, ◌≤◌, ◌*◌, ◌∙◌, ap, sym, refl, subst, inl, inr, ℕ, Bool, true, false, not, ◌&&◌, ◌||◌, ◌⊎◌, List,
-  length, max, Some, nat_lt, nat_le, IsTrue, arith, cond,
-}
+use Rattle.std.proofs.Common.{◌≡◌, ◌==◌, ◌<◌, ◌≤◌, ◌*◌, ◌∙◌, ap, sym, refl, subst, inl, inr, ℕ, Bool, true, false, not}
+use Rattle.std.proofs.Common.{◌&&◌, ◌||◌, ◌⊎◌, List, length, max, Some, nat_lt, nat_le, IsTrue, arith, cond}
 use Rattle.std.specs.List.{list_any}
 use Rattle.std.proofs.Math.Nat.{mul-le-mul_left, mul-le-mul_right}
 use Rattle.std.proofs.lemmas.Bool.{and_parts, and_from}

@@ -1,8 +1,6 @@
 -- Each path meets the cut once: up to some place the homes of its clusters are not open, and from there on they are.
-use Rattle.std.proofs.Common.{
-  ◌≡◌, ◌==◌, ◌<◌, ◌≤◌, ◌+◌, ◌-◌, ◌∙◌, ap, sym, refl, subst, filter, inl, inr, ℕ, zero, suc, Bool, true, false, not,
-  ◌&&◌, List, length, slice_index, arith,
-}
+use Rattle.std.proofs.Common.{◌≡◌, ◌==◌, ◌<◌, ◌≤◌, ◌+◌, ◌-◌, ◌∙◌, ap, sym, refl, subst, filter, inl, inr, ℕ, zero, suc}
+use Rattle.std.proofs.Common.{Bool, true, false, not, ◌&&◌, List, length, slice_index, arith}
 use Rattle.std.specs.List.{range_with_len, position_or_len}
 use Rattle.std.proofs.lemmas.Bool.{and_parts, and_from, cases_lt}
 use Rattle.std.proofs.lemmas.Bool.Decides.{nat_tests}
@@ -190,8 +188,7 @@ meets_once heads lens resident path range checked closed is_path =
       range = range;
       checked = checked;
       closed = closed;
-      is_path =
-          is_path;
+      is_path = is_path;
     } in
     let first : ℕ = first_open heads lens resident path in
     let within = first_within heads lens resident path walk in

@@ -2,9 +2,8 @@
 use Rattle.std.proofs.Common.{◌≡◌, ◌<◌, ◌≤◌, ℕ, length, IsTrue, Some, arith, subst}
 use Rattle.std.proofs.lemmas.Bool.Decides.{nat_tests}
 use Rattle.std.proofs.lemmas.List.Elements.{All-get_or}
-use Rattle.geom_core.specs.declared.limits.TheConstants.{
-  CLUSTERS_PER_GROUP, MAX_CLUSTERS, MAX_GROUPS, MAX_PAGES, TRIANGLES_PER_CLUSTER,
-}
+use Rattle.geom_core.specs.declared.limits.TheConstants.{CLUSTERS_PER_GROUP, MAX_CLUSTERS, MAX_GROUPS, MAX_PAGES}
+use Rattle.geom_core.specs.declared.limits.TheConstants.{TRIANGLES_PER_CLUSTER}
 use Rattle.dag_core.specs.declared.groups.Group.{Group}
 use Rattle.dag_core.specs.declared.heads.Heads.{Heads}
 use Rattle.dag_core.specs.Members.{no_group, no_cluster, group_at, cluster_at}
@@ -57,7 +56,7 @@ pub group_bounds : (heads : Heads) (g : ℕ) → IsInRange heads → g < length 
     GroupBounds heads (group_at heads g)
 group_bounds heads g range below =
     bounds_from heads (group_at heads g) (All-get_or
-        (IsGroupInRange (counts_of heads)) heads.groups g no_group below range.groups)
+    (IsGroupInRange (counts_of heads)) heads.groups g no_group below range.groups)
 
 cluster_range : (heads : Heads) (c : ℕ) → IsInRange heads → c < length heads.clusters →
     IsClusterInRange (counts_of heads) (cluster_at heads c)
@@ -76,4 +75,4 @@ pub maker_below : (heads : Heads) (c m : ℕ) → IsInRange heads → c < length
     (cluster_at heads c).made ≡ Some m → m < length heads.groups
 maker_below heads c m range below made =
     maker_range heads m (subst (λ maker. IsTrue (is_group_or_none (counts_of heads) maker)) made
-        (cluster_range heads c range below).maker)
+    (cluster_range heads c range below).maker)

@@ -8,10 +8,8 @@ use Rattle.dag_core.specs.declared.groups.Group.{Group}
 use Rattle.dag_core.specs.declared.cluster_heads.ClusterHead.{ClusterHead}
 use Rattle.dag_core.specs.declared.counts.Counts.{Counts}
 use Rattle.dag_core.specs.declared.heads.Heads.{Heads}
-use Rattle.dag_core.specs.Ranges.{
-  AreCountsInRange, IsClusterInRange, IsGroupInRange, IsInRange, are_members, counts_of, is_cluster_size,
-  is_count_in_range, is_error, is_group_box, is_group_or_none, is_page,
-}
+use Rattle.dag_core.specs.Ranges.{AreCountsInRange, IsClusterInRange, IsGroupInRange, IsInRange, are_members, counts_of}
+use Rattle.dag_core.specs.Ranges.{is_cluster_size, is_count_in_range, is_error, is_group_box, is_group_or_none, is_page}
 use Rattle.dag_core.specs.Internal.RangeTests.{are_counts_in_range, is_cluster_in_range, is_group_in_range}
 
 -- the parts of a test of four and of five
@@ -34,10 +32,15 @@ counts_from : (counts : Counts) → are_counts_in_range counts ≡ true → AreC
 unfolding are_counts_in_range
 counts_from counts is =
     let parts =
-        five (is_count_in_range counts 0) (is_count_in_range counts 1) (is_count_in_range counts 2)
-        (is_count_in_range counts 3) (is_count_in_range counts 4) is in
-    record { groups = parts.first; clusters = parts.second; pages = parts.third; roots = parts.fourth; sources =
-        parts.fifth }
+    five (is_count_in_range counts 0) (is_count_in_range counts 1) (is_count_in_range counts 2)
+    (is_count_in_range counts 3) (is_count_in_range counts 4) is in
+    record {
+      groups = parts.first;
+      clusters = parts.second;
+      pages = parts.third;
+      roots = parts.fourth;
+      sources = parts.fifth;
+    }
 
 counts_to : (counts : Counts) → AreCountsInRange counts → are_counts_in_range counts ≡ true
 unfolding are_counts_in_range
@@ -54,8 +57,8 @@ group_from : (counts : Counts) (group : Group) → is_group_in_range counts grou
 unfolding is_group_in_range
 group_from counts group is =
     let parts =
-        four (is_error group.error) (is_group_box group.cube) (is_page counts group.page)
-        (are_members counts group.first group.count) is in
+    four (is_error group.error) (is_group_box group.cube) (is_page counts group.page)
+    (are_members counts group.first group.count) is in
     record { error = parts.first; box = parts.second; page = parts.third; members = parts.fourth }
 
 group_to : (counts : Counts) (group : Group) → IsGroupInRange counts group → is_group_in_range counts group ≡ true

@@ -1,7 +1,6 @@
 -- The rules at a place: what each says there, and that it isn't broken beyond the last place.
-use Rattle.std.proofs.Common.{
-  ◌≡◌, ◌<◌, ◌≤◌, ℕ, Bool, true, false, not, ◌&&◌, length, nat_lt, arith, cond, inl, inr, subst,
-}
+use Rattle.std.proofs.Common.{◌≡◌, ◌<◌, ◌≤◌, ℕ, Bool, true, false, not, ◌&&◌, length, nat_lt, arith, cond, inl, inr}
+use Rattle.std.proofs.Common.{subst}
 use Rattle.std.proofs.Math.Nat.{eq-or-lt_of_le}
 use Rattle.std.proofs.lemmas.Bool.Decides.{nat_tests}
 use Rattle.dag_core.specs.declared.heads.Heads.{Heads}
@@ -9,10 +8,8 @@ use Rattle.dag_core.specs.Members.{group_at, cluster_at, home}
 use Rattle.std.specs.List.{list_any}
 use Rattle.dag_core.specs.Pages.{has_terminal_on, tris_on, uppers_of}
 use Rattle.dag_core.specs.Internal.Tables.{is_bad_page}
-use Rattle.dag_core.specs.Rules.{
-  breaks_bound, breaks_maker, breaks_members, breaks_page, breaks_terminal, has_made, is_maker_at_most,
-  is_maker_outside, members_before,
-}
+use Rattle.dag_core.specs.Rules.{breaks_bound, breaks_maker, breaks_members, breaks_page, breaks_terminal, has_made}
+use Rattle.dag_core.specs.Rules.{is_maker_at_most, is_maker_outside, members_before}
 
 -- ---- beyond the last place
 

@@ -1,8 +1,7 @@
 -- The source mesh of a DAG: its edge sums are those of the leaves, and its k-th triangle is the leaf triangle with
 -- source k.
-use Rattle.std.proofs.Common.{
-  ◌≡◌, ◌==◌, ◌<◌, ◌∙◌, ◌∷◌, [], ap, sym, filter, flat_map, ℕ, ℤ, pos, ◌+ℤ◌, Bool, true, false, List, All, arith, cond,
-}
+use Rattle.std.proofs.Common.{◌≡◌, ◌==◌, ◌<◌, ◌∙◌, ◌∷◌, [], ap, sym, filter, flat_map, ℕ, ℤ, pos, ◌+ℤ◌, Bool, true}
+use Rattle.std.proofs.Common.{false, List, All, arith, cond}
 use Rattle.std.specs.List.{range_with_len}
 use Rattle.std.proofs.lemmas.Int.{ints}
 use Rattle.std.proofs.lemmas.List.Elements.{All-head, All-tail}

@@ -1,8 +1,6 @@
 -- Rule 6 compares edge sums at the edges of both lists alone; they then agree at every pair of points.
-use Rattle.std.proofs.Common.{
-  ◌≡◌, ◌<◌, ◌≤◌, ◌+◌, ℕ, Bool, true, false, ◌&&◌, pos, ◌-ℤ◌, List, [], ◌∷◌, ◌++◌, flat_map, count_by, cond, refl, sym,
-  ap, subst, arith, inl, inr,
-}
+use Rattle.std.proofs.Common.{◌≡◌, ◌<◌, ◌≤◌, ◌+◌, ℕ, Bool, true, false, ◌&&◌, pos, ◌-ℤ◌, List, [], ◌∷◌, ◌++◌, flat_map}
+use Rattle.std.proofs.Common.{count_by, cond, refl, sym, ap, subst, arith, inl, inr}
 use Rattle.std.specs.List.{list_all}
 use Rattle.std.specs.Ordering.{int_eq}
 use Rattle.std.proofs.lemmas.Bool.{and_parts, and_from, cases_lt}
@@ -46,16 +44,16 @@ at_edge : (tris others : List Tri) → have_same_sums tris others ≡ true → (
 unfolding have_same_sums edge_count
 at_edge tris others same u v some =
     let found : Both (λ (edge : Pt × Pt). same_point edge.0 u && same_point edge.1 v)
-        (λ (edge : Pt × Pt). int_eq (edge_sum tris edge.0 edge.1) (edge_sum others edge.0 edge.1)) =
+    (λ (edge : Pt × Pt). int_eq (edge_sum tris edge.0 edge.1) (edge_sum others edge.0 edge.1)) =
     counted (λ (edge : Pt × Pt). same_point edge.0 u && same_point edge.1 v)
-        (λ (edge : Pt × Pt). int_eq (edge_sum tris edge.0 edge.1) (edge_sum others edge.0 edge.1))
+    (λ (edge : Pt × Pt). int_eq (edge_sum tris edge.0 edge.1) (edge_sum others edge.0 edge.1))
     (flat_map edges_of (tris ++ others)) (subst (λ n. 0 < n) (sym (edge_count-append tris others u v)) some) same in
     let ends = and_parts (same_point found.item.0 u) (same_point found.item.1 v) found.passes in
     let from : found.item.0 ≡ u = same_point-from found.item.0 u ends.0 in
     let to : found.item.1 ≡ v = same_point-from found.item.1 v ends.1 in
     let agree : edge_sum tris found.item.0 found.item.1 ≡ edge_sum others found.item.0 found.item.1 =
     (Decides-int_eq (edge_sum tris found.item.0 found.item.1) (edge_sum others found.item.0 found.item.1)).0
-        found.also in
+    found.also in
     subst (λ (p : Pt). edge_sum tris p v ≡ edge_sum others p v) from
     (subst (λ (q : Pt). edge_sum tris found.item.0 q ≡ edge_sum others found.item.0 q) to agree)
 
@@ -75,7 +73,7 @@ sums_agree tris others same u v =
           elim (cases_lt 0 (edge_count tris v u + edge_count others v u)) [
             | inl some ↦
                 turned (edge_count tris u v) (edge_count tris v u) (edge_count others u v) (edge_count others v u)
-                    (at_edge tris others same v u some)
+                (at_edge tris others same v u some)
             | inr back ↦ nothing (edge_count tris u v) (edge_count tris v u) (edge_count others u v)
                 (edge_count others v u) none back
           ]
@@ -90,5 +88,5 @@ pub agree_everywhere : (tris others : List Tri) → ((u v : Pt) → edge_sum tri
 unfolding have_same_sums
 agree_everywhere tris others agree =
     all_pass (λ (edge : Pt × Pt). int_eq (edge_sum tris edge.0 edge.1) (edge_sum others edge.0 edge.1))
-        (flat_map edges_of (tris ++ others))
+    (flat_map edges_of (tris ++ others))
     (λ edge. (Decides-int_eq (edge_sum tris edge.0 edge.1) (edge_sum others edge.0 edge.1)).1 (agree edge.0 edge.1))

@@ -1,8 +1,6 @@
 -- The entries of the tables, and what the rules say by them.
-use Rattle.std.proofs.Common.{
-  ◌≡◌, ◌==◌, ◌<◌, ℕ, zero, suc, replicate, filter, sum_by, Bool, true, false, not, ◌&&◌, cond, List, length, map,
-  get_or, refl, sym, ap, ◌∙◌, arith, nat_lt, zero-add,
-}
+use Rattle.std.proofs.Common.{◌≡◌, ◌==◌, ◌<◌, ℕ, zero, suc, replicate, filter, sum_by, Bool, true, false, not, ◌&&◌}
+use Rattle.std.proofs.Common.{cond, List, length, map, get_or, refl, sym, ap, ◌∙◌, arith, nat_lt, zero-add}
 use mathlib.Core.Bool.{beq}
 use Rattle.std.specs.List.{range_with_len, list_any}
 use Rattle.std.proofs.lemmas.Bool.{true≢false, false≢true}
@@ -12,9 +10,8 @@ use Rattle.dag_core.specs.declared.groups.Group.{Group}
 use Rattle.dag_core.specs.declared.cluster_heads.ClusterHead.{ClusterHead}
 use Rattle.dag_core.specs.declared.heads.Heads.{Heads}
 use Rattle.dag_core.specs.Members.{group_at, cluster_at, home}
-use Rattle.dag_core.specs.Rules.{
-  breaks_bound, breaks_maker, breaks_terminal, has_made, is_maker_at_most, is_maker_outside,
-}
+use Rattle.dag_core.specs.Rules.{breaks_bound, breaks_maker, breaks_terminal, has_made, is_maker_at_most}
+use Rattle.dag_core.specs.Rules.{is_maker_outside}
 use Rattle.dag_core.specs.Pages.{has_terminal_on, is_maker_on, page_of_cluster, tris_on}
 use Rattle.dag_core.specs.Members.{is_made_by, all_clusters}
 use Rattle.dag_core.specs.Internal.Tables.{has_later_upper, homes_of, makers_of}
@@ -83,7 +80,7 @@ terminal_told heads makers g group table same below =
     terminal_at heads g below
     ∙ (ap (λ (k : Group). cond k.terminal (has_made heads g) (not (has_made heads g))) (sym same)
     ∙ ap (λ made. cond group.terminal made (not made))
-        (sym (table_at (has_made heads) (length heads.groups) makers g false table below)))
+    (sym (table_at (has_made heads) (length heads.groups) makers g false table below)))
 
 pub terminal_broken : (heads : Heads) (makers : List Bool) (g : ℕ) (group : Group) → makers ≡ makers_of heads →
     group ≡ group_at heads g →

@@ -46,19 +46,37 @@ coarse_square x source = sourced (corner_b x) (corner_c x) (corner_a x) (source 
 -- the group of both coarse squares, which nothing replaces
 abbrev pub whole : Group
 whole =
-    record { error = 0; terminal = true; cube = record { lo = corner_a 0; hi = corner_c 16 }; page = 0; first =
-    0; count = 2 }
+    record {
+      error = 0;
+      terminal = true;
+      cube = record { lo = corner_a 0; hi = corner_c 16 };
+      page = 0;
+      first = 0;
+      count = 2;
+    }
 
 -- the groups of the fine squares
 abbrev pub left : Group
 left =
-    record { error = 4; terminal = false; cube = record { lo = corner_a 0; hi = corner_c 0 }; page = 1; first =
-    2; count = 1 }
+    record {
+      error = 4;
+      terminal = false;
+      cube = record { lo = corner_a 0; hi = corner_c 0 };
+      page = 1;
+      first = 2;
+      count = 1;
+    }
 
 abbrev pub right : Group
 right =
-    record { error = 4; terminal = false; cube = record { lo = corner_a 16; hi = corner_c 16 }; page = 2; first =
-    3; count = 1 }
+    record {
+      error = 4;
+      terminal = false;
+      cube = record { lo = corner_a 16; hi = corner_c 16 };
+      page = 2;
+      first = 3;
+      count = 1;
+    }
 
 abbrev pub made_of_two : ℕ → ClusterHead
 made_of_two maker = record { made = Some maker; tris = 2 }

@@ -13,14 +13,10 @@ use Rattle.dag_core.specs.declared.dags.Dag.{Dag}
 use Rattle.dag_core.specs.Members.{home}
 use Rattle.dag_core.specs.Pages.{has_terminal_on, is_upper, tris_on}
 use Rattle.dag_core.specs.Ranges.{IsInRange}
-use Rattle.dag_core.specs.Rules.{
-  Checked, breaks_bound, breaks_maker, breaks_members, breaks_page, breaks_terminal, has_made, is_outgrown,
-  members_before,
-}
-use Rattle.dag_core.specs.TriangleRules.{
-  IsLaidOut, IsSourcedTriangle, Sound, breaks_corners, breaks_source, breaks_sums, dag_breaks, have_same_sums, is_near,
-  is_near_source,
-}
+use Rattle.dag_core.specs.Rules.{Checked, breaks_bound, breaks_maker, breaks_members, breaks_page, breaks_terminal}
+use Rattle.dag_core.specs.Rules.{has_made, is_outgrown, members_before}
+use Rattle.dag_core.specs.TriangleRules.{IsLaidOut, IsSourcedTriangle, Sound, breaks_corners, breaks_source}
+use Rattle.dag_core.specs.TriangleRules.{breaks_sums, dag_breaks, have_same_sums, is_near, is_near_source}
 use Rattle.dag_core.specs.Internal.RangeTests.{are_counts_in_range, is_cluster_in_range, is_group_in_range}
 use Rattle.dag_core.proofs.ListSteps.{range_any}
 use Rattle.dag_core.proofs.PlaceLaws.{NoneBefore, none_at_all}
@@ -52,7 +48,7 @@ pub checked_from : (heads : Heads) → ((g : ℕ) → breaks_members heads g ≡
     ((p : ℕ) → breaks_page heads p ≡ false) → Checked heads
 checked_from heads members makers terminals bounds pages = λ rule index.
     pick _ _ _ (members index) (pick _ _ _ (makers index)
-        (pick _ _ _ (terminals index) (pick _ _ _ (bounds index) (pick _ _ _ (pages index) refl))))
+    (pick _ _ _ (terminals index) (pick _ _ _ (bounds index) (pick _ _ _ (pages index) refl))))
 
 -- a DAG that keeps each of the three rules of triangles
 pub dag_rules_from : (dag : Dag) → ((g : ℕ) → breaks_sums dag g ≡ false) → ((k : ℕ) → breaks_source dag k ≡ false) →
@@ -75,10 +71,10 @@ unfolding home tris_on has_terminal_on is_upper members_before breaks_members br
 two_squares_checked =
     checked_from two_squares_heads
     (none_from_search (breaks_members two_squares_heads) 4 refl
-        (λ place from. members_beyond two_squares_heads place (omega arith)))
+    (λ place from. members_beyond two_squares_heads place (omega arith)))
     (none_from_search (breaks_maker two_squares_heads) 4 refl (λ place from. maker_beyond two_squares_heads place from))
     (none_from_search (breaks_terminal two_squares_heads) 3 refl
-        (λ place from. terminal_beyond two_squares_heads place from))
+    (λ place from. terminal_beyond two_squares_heads place from))
     (none_from_search (breaks_bound two_squares_heads) 4 refl (λ place from. bound_beyond two_squares_heads place from))
     (none_from_search (breaks_page two_squares_heads) 3 refl (λ place from. page_beyond two_squares_heads place from))
 
@@ -100,7 +96,7 @@ two_squares_laid_out = record {
       all_from (All (IsSourcedTriangle 8)) (list_all (λ (t : Tagged). is_grid_triangle t.tri && nat_lt t.source 8))
       two_squares_tris
       (λ tris all. all_from (IsSourcedTriangle 8)
-          (λ (t : Tagged). is_grid_triangle t.tri && nat_lt t.source 8) tris sourced_from all) refl;
+      (λ (t : Tagged). is_grid_triangle t.tri && nat_lt t.source 8) tris sourced_from all) refl;
 }
 
 pub two_squares_sound : Sound two_squares

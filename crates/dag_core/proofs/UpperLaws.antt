@@ -1,7 +1,6 @@
 -- Rule 5: a page has a later upper exactly where a group of it made a cluster on a later page.
-use Rattle.std.proofs.Common.{
-  ◌≡◌, ◌==◌, ◌<◌, ℕ, Bool, true, false, not, ◌&&◌, List, length, get_or, ap, sym, ◌∙◌, refl, arith, nat_lt,
-}
+use Rattle.std.proofs.Common.{◌≡◌, ◌==◌, ◌<◌, ℕ, Bool, true, false, not, ◌&&◌, List, length, get_or, ap, sym, ◌∙◌, refl}
+use Rattle.std.proofs.Common.{arith, nat_lt}
 use Rattle.std.specs.List.{list_any, range_with_len}
 use Rattle.std.proofs.lemmas.Bool.{and_parts, and_from}
 use Rattle.std.proofs.lemmas.Bool.Decides.{nat_tests}
@@ -10,9 +9,8 @@ use Rattle.dag_core.specs.Members.{cluster_at, home}
 use Rattle.dag_core.specs.Pages.{has_terminal_on, is_maker_on, is_upper, page_of_cluster, tris_on, uppers_of}
 use Rattle.dag_core.specs.Ranges.{IsInRange}
 use Rattle.dag_core.specs.Rules.{breaks_page}
-use Rattle.dag_core.specs.Internal.Tables.{
-  has_later_upper, is_bad_page, later_uppers_of, page_tris_of, terminal_pages_of,
-}
+use Rattle.dag_core.specs.Internal.Tables.{has_later_upper, is_bad_page, later_uppers_of, page_tris_of}
+use Rattle.dag_core.specs.Internal.Tables.{terminal_pages_of}
 use Rattle.dag_core.proofs.ListSteps.{list_any-filter, range_any, range_found, same_bools}
 use Rattle.dag_core.proofs.MemberLaws.{AreMembersInTurn, home_below}
 use Rattle.dag_core.proofs.RangeLaws.{group_bounds}
@@ -33,12 +31,12 @@ pub upper_from : (heads : Heads) (p q c : ℕ) → c < length heads.clusters →
 unfolding is_upper
 upper_from heads p q c below maker page other =
     and_from (not (q == p)) (list_any (λ k. is_maker_on heads p
-        (cluster_at heads k).made && page_of_cluster heads k == q) (range_with_len 0 (length heads.clusters)))
+    (cluster_at heads k).made && page_of_cluster heads k == q) (range_with_len 0 (length heads.clusters)))
     (grind (arith, nat_tests))
     (range_any (λ k. is_maker_on heads p (cluster_at heads k).made && page_of_cluster heads k == q)
-        (length heads.clusters) c below
+    (length heads.clusters) c below
     (and_from (is_maker_on heads p (cluster_at heads c).made) (page_of_cluster heads c == q) maker
-        (grind (arith, nat_tests))))
+    (grind (arith, nat_tests))))
 
 -- the cluster that makes a page an upper
 pub record MadeOn (heads : Heads) (p q : ℕ) : Type 0 where
@@ -57,10 +55,14 @@ made_on heads p q upper =
     let parts = and_parts (not (q == p)) (list_any test (range_with_len 0 (length heads.clusters))) upper in
     let found = range_found test (length heads.clusters) parts.1 in
     let both =
-        and_parts (is_maker_on heads p (cluster_at heads found.number).made)
-        (page_of_cluster heads found.number == q) found.passes in
-    record { cluster = found.number; below = found.below; maker = both.0; page =
-        same_page (page_of_cluster heads found.number) q both.1 }
+    and_parts (is_maker_on heads p (cluster_at heads found.number).made)
+    (page_of_cluster heads found.number == q) found.passes in
+    record {
+      cluster = found.number;
+      below = found.below;
+      maker = both.0;
+      page = same_page (page_of_cluster heads found.number) q both.1;
+    }
 
 later_test : (p q : ℕ) → nat_lt p q ≡ true → p < q
 later_test p q is = grind (arith, nat_tests)
@@ -72,18 +74,18 @@ to_upper : (heads : Heads) (p : ℕ) → IsInRange heads → AreMembersInTurn he
     list_any (nat_lt p) (uppers_of heads p) ≡ true
 to_upper heads p range turn any =
     let found =
-        range_found (is_made_for_later heads p) (length heads.clusters) (sym (has_later_upper-is heads p) ∙ any) in
+    range_found (is_made_for_later heads p) (length heads.clusters) (sym (has_later_upper-is heads p) ∙ any) in
     let q = page_of_cluster heads found.number in
     let both =
-        and_parts (is_maker_on heads p (cluster_at heads found.number).made)
-        (nat_lt p (page_of_cluster heads found.number)) found.passes in
+    and_parts (is_maker_on heads p (cluster_at heads found.number).made)
+    (nat_lt p (page_of_cluster heads found.number)) found.passes in
     let later = later_test p (page_of_cluster heads found.number) both.1 in
     let below = cluster_page heads found.number range turn found.below in
     list_any-filter (nat_lt p) (is_upper heads p) (range_with_len 0 heads.pages)
     ∙ range_any (λ k. is_upper heads p k && nat_lt p k) heads.pages (page_of_cluster heads found.number) below
     (and_from (is_upper heads p (page_of_cluster heads found.number)) (nat_lt p (page_of_cluster heads found.number))
     (upper_from heads p (page_of_cluster heads found.number) found.number found.below both.0 refl (λ same. omega arith))
-        both.1)
+    both.1)
 
 from_upper : (heads : Heads) (p : ℕ) → list_any (nat_lt p) (uppers_of heads p) ≡ true → has_later_upper heads p ≡ true
 from_upper heads p any =
@@ -95,14 +97,14 @@ from_upper heads p any =
     has_later_upper-is heads p
     ∙ range_any (is_made_for_later heads p) (length heads.clusters) made.cluster made.below
     (and_from (is_maker_on heads p (cluster_at heads made.cluster).made)
-        (nat_lt p (page_of_cluster heads made.cluster)) made.maker
+    (nat_lt p (page_of_cluster heads made.cluster)) made.maker
     (test_later p (page_of_cluster heads made.cluster) (omega (arith, made.page))))
 
 pub later_upper : (heads : Heads) (p : ℕ) → IsInRange heads → AreMembersInTurn heads →
     has_later_upper heads p ≡ list_any (nat_lt p) (uppers_of heads p)
 later_upper heads p range turn =
     same_bools (has_later_upper heads p) (list_any (nat_lt p) (uppers_of heads p)) (to_upper heads p range turn)
-        (from_upper heads p)
+    (from_upper heads p)
 
 -- rule 5 at a page, as the tables tell
 pub page_by : (heads : Heads) (tris : List ℕ) (terminal later : List Bool) (p : ℕ) (told : Bool) → IsInRange heads →
@@ -114,9 +116,9 @@ page_by heads tris terminal later p told range turn tris_table terminal_table la
     page_at heads p below
     ∙ (ap (λ b. is_bad_page heads.roots p (tris_on heads p) (has_terminal_on heads p) b)
     (sym (later_upper heads p range turn) ∙ sym
-        (table_at (has_later_upper heads) heads.pages later p false later_table below))
+    (table_at (has_later_upper heads) heads.pages later p false later_table below))
     ∙ (ap (λ b. is_bad_page heads.roots p (tris_on heads p) b (get_or later p false))
-        (sym (table_at (has_terminal_on heads) heads.pages terminal p false terminal_table below))
+    (sym (table_at (has_terminal_on heads) heads.pages terminal p false terminal_table below))
     ∙ (ap (λ n. is_bad_page heads.roots p n (get_or terminal p false) (get_or later p false))
-        (sym (table_at (tris_on heads) heads.pages tris p 0 tris_table below))
+    (sym (table_at (tris_on heads) heads.pages tris p 0 tris_table below))
     ∙ sym tells)))

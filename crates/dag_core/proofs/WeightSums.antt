@@ -1,8 +1,6 @@
 -- Sums of whole numbers over lists of numbers: of two weights, over what a test keeps, and over members taken in turn.
-use Rattle.std.proofs.Common.{
-  ◌≡◌, ◌==◌, ◌<◌, ◌≤◌, ◌+◌, ◌∙◌, ◌++◌, ◌∷◌, [], ap, sym, refl, subst, filter, ℕ, zero, suc, ℤ, pos, ◌+ℤ◌, Bool, true,
-  false, List, ◌⊎◌, inl, inr, arith, cond,
-}
+use Rattle.std.proofs.Common.{◌≡◌, ◌==◌, ◌<◌, ◌≤◌, ◌+◌, ◌∙◌, ◌++◌, ◌∷◌, [], ap, sym, refl, subst, filter, ℕ, zero, suc}
+use Rattle.std.proofs.Common.{ℤ, pos, ◌+ℤ◌, Bool, true, false, List, ◌⊎◌, inl, inr, arith, cond}
 use Rattle.std.proofs.lemmas.Int.{ints}
 use Rattle.std.specs.List.{range_with_len}
 use Rattle.std.proofs.lemmas.Bool.{cases_lt}

@@ -1,8 +1,6 @@
 -- The cut of a DAG: the clusters that are drawn through a lens while these pages are resident.
-use Rattle.std.specs.Prelude.{
-  ◌≡◌, Bool, false, not, ◌&&◌, ◌||◌, ◌==◌, ℕ, ◌+◌, ◌<◌, List, length, map, filter, flat_map, Option, Some, None, IsTrue,
-  slice_index, slice_index_or,
-}
+use Rattle.std.specs.Prelude.{◌≡◌, Bool, false, not, ◌&&◌, ◌||◌, ◌==◌, ℕ, ◌+◌, ◌<◌, List, length, map, filter, flat_map}
+use Rattle.std.specs.Prelude.{Option, Some, None, IsTrue, slice_index, slice_index_or}
 use Rattle.std.specs.List.{enumerate_from, list_any}
 use Rattle.geom_core.specs.declared.triangles.Tagged.{Tagged}
 use Rattle.geom_core.specs.declared.triangles.Tri.{Tri}
@@ -20,7 +18,7 @@ use Rattle.dag_core.specs.Triangles.{source_of}
 unfoldable pub is_open : Heads → Lens → List ℕ → ℕ → Bool
 is_open heads lens resident g =
     has_page resident (group_at heads g).page &&
-        ((group_at heads g).terminal || is_coarse_group lens (group_at heads g))
+    ((group_at heads g).terminal || is_coarse_group lens (group_at heads g))
 
 -- the maker is an open group
 abbrev pub is_maker_open : Heads → Lens → List ℕ → Option ℕ → Bool

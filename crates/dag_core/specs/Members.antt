@@ -1,7 +1,6 @@
 -- Which clusters a group has and which it made, and in which group a cluster is.
-use Rattle.std.specs.Prelude.{
-  Bool, false, ◌&&◌, ◌==◌, nat_le, nat_lt, ℕ, pos, ◌+◌, List, length, filter, Option, Some, None, slice_index_or,
-}
+use Rattle.std.specs.Prelude.{Bool, false, ◌&&◌, ◌==◌, nat_le, nat_lt, ℕ, pos, ◌+◌, List, length, filter, Option, Some}
+use Rattle.std.specs.Prelude.{None, slice_index_or}
 use Rattle.std.specs.List.{range_with_len, position_or_len}
 use Rattle.geom_core.specs.declared.points.Pt.{Pt}
 use Rattle.dag_core.specs.declared.groups.Group.{Group}

@@ -29,7 +29,7 @@ is_maker_on heads p (Some m) = (group_at heads m).page == p
 unfoldable pub is_upper : Heads → ℕ → ℕ → Bool
 is_upper heads p q =
     not (q == p) && list_any (λ c. is_maker_on heads p (cluster_at heads c).made && page_of_cluster heads c == q)
-        (all_clusters heads)
+    (all_clusters heads)
 
 -- the uppers of a page, the pages that it depends on directly, ascending
 abbrev pub uppers_of : Heads → ℕ → List ℕ

@@ -1,11 +1,9 @@
 -- The ranges of a DAG's counts, and of each record of a group and a cluster. A range that a file's bytes decide is a
 -- Bool, so that it can be asked of bytes.
-use Rattle.std.specs.Prelude.{
-  Bool, true, ◌&&◌, ◌==◌, nat_le, nat_lt, ℕ, length, Option, Some, None, IsTrue, All, if◌then◌else◌,
-}
-use Rattle.geom_core.specs.declared.limits.TheConstants.{
-  CLUSTERS_PER_GROUP, MAX_CLUSTERS, MAX_ERROR, MAX_GROUPS, MAX_PAGES, MAX_TRIANGLES, TRIANGLES_PER_CLUSTER,
-}
+use Rattle.std.specs.Prelude.{Bool, true, ◌&&◌, ◌==◌, nat_le, nat_lt, ℕ, length, Option, Some, None, IsTrue, All}
+use Rattle.std.specs.Prelude.{if◌then◌else◌}
+use Rattle.geom_core.specs.declared.limits.TheConstants.{CLUSTERS_PER_GROUP, MAX_CLUSTERS, MAX_ERROR, MAX_GROUPS}
+use Rattle.geom_core.specs.declared.limits.TheConstants.{MAX_PAGES, MAX_TRIANGLES, TRIANGLES_PER_CLUSTER}
 use Rattle.geom_core.specs.declared.boxes.Cube.{Cube}
 use Rattle.geom_core.specs.Boxes.{is_under}
 use Rattle.geom_core.specs.Limits.{is_grid_point}

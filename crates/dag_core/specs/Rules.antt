@@ -1,8 +1,6 @@
 -- The rules of a DAG's heads, by number: 1 members, 2 makers, 3 terminal groups, 4 errors and boxes, 5 pages.
-use Rattle.std.specs.Prelude.{
-  ◌≡◌, Bool, true, false, not, ◌&&◌, ◌||◌, ◌==◌, nat_le, nat_lt, ℕ, ◌<◌, length, take, sum_by, Option, Some, None,
-  if◌then◌else◌,
-}
+use Rattle.std.specs.Prelude.{◌≡◌, Bool, true, false, not, ◌&&◌, ◌||◌, ◌==◌, nat_le, nat_lt, ℕ, ◌<◌, length, take}
+use Rattle.std.specs.Prelude.{sum_by, Option, Some, None, if◌then◌else◌}
 use Rattle.std.specs.List.{list_any}
 use Rattle.geom_core.specs.declared.limits.TheConstants.{PAGE_TRIANGLES}
 use Rattle.geom_core.specs.Boxes.{holds_box}

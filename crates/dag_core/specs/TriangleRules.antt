@@ -1,8 +1,6 @@
 -- The rules of a DAG's triangles, by number: 6 edge sums, 7 sources, 8 corners; and the DAGs that keep them.
-use Rattle.std.specs.Prelude.{
-  ◌≡◌, Bool, true, false, not, ◌&&◌, ◌==◌, nat_le, nat_lt, ℕ, ◌<◌, List, ◌++◌, length, flat_map, Option, Some, None,
-  All, if◌then◌else◌,
-}
+use Rattle.std.specs.Prelude.{◌≡◌, Bool, true, false, not, ◌&&◌, ◌==◌, nat_le, nat_lt, ℕ, ◌<◌, List, ◌++◌, length}
+use Rattle.std.specs.Prelude.{flat_map, Option, Some, None, All, if◌then◌else◌}
 use Rattle.std.specs.List.{list_all}
 use Rattle.std.specs.Ordering.{int_eq}
 use Rattle.geom_core.specs.declared.triangles.Tri.{Tri}
@@ -22,7 +20,7 @@ use Rattle.dag_core.specs.Triangles.{tris_at, tris_in, leaf_tris_from, HasTris}
 unfoldable pub have_same_sums : List Tri → List Tri → Bool
 have_same_sums tris others =
     list_all (λ edge. int_eq (edge_sum tris edge.0 edge.1) (edge_sum others edge.0 edge.1))
-        (flat_map edges_of (tris ++ others))
+    (flat_map edges_of (tris ++ others))
 
 -- rule 6, at a group: it isn't terminal, and its members and the clusters that it made differ in an edge sum
 unfoldable pub breaks_sums : Dag → ℕ → Bool

@@ -1,8 +1,6 @@
 -- Rims that are joined piece by piece.
-use Rattle.std.proofs.Common.{
-  ◌≡◌, ℕ, ◌≤◌, ◌+◌, Bool, true, false, ◌&&◌, List, [], ◌∷◌, ◌++◌, length, get_or, All, map, take, refl, sym, ap, ◌∙◌,
-  subst, arith,
-}
+use Rattle.std.proofs.Common.{◌≡◌, ℕ, ◌≤◌, ◌+◌, Bool, true, false, ◌&&◌, List, [], ◌∷◌, ◌++◌, length, get_or, All, map}
+use Rattle.std.proofs.Common.{take, refl, sym, ap, ◌∙◌, subst, arith}
 use Rattle.std.proofs.lemmas.List.{append-nil, append_assoc, length-append, take_all}
 use Rattle.std.proofs.lemmas.Grind.{flat_map-append}
 use Rattle.geom_core.specs.declared.limits.TheConstants.{MAX_SUMMED_TRIANGLES}
@@ -34,7 +32,7 @@ piece_joined tris rest piece later rims grown rim (lists, are, whole) parts is p
   rw pushed (are_pushed lists rims piece rim are is),
   whole ∙ ap (λ l. all_of lists ++ l) parts ∙ sym (append_assoc (all_of lists) piece later) ∙
       ap (λ l. l ++ later) (sym (flat_map-append (λ (l : List Tri). l) lists (piece ∷ []) ∙
-          ap (λ l. all_of lists ++ l) (append-nil piece))),
+      ap (λ l. all_of lists ++ l) (append-nil piece))),
 )
 
 pub rest_is_few : (tris rest : List Tri) (lists : List (List Tri)) → tris ≡ all_of lists ++ rest →

@@ -1,8 +1,6 @@
 -- What an audit answers, by what the reading and the replay of a journal gave.
-use Rattle.std.proofs.Common.{
-  ◌≡◌, ◌≤◌, ◌<◌, ◌^◌, ℕ, List, length, Option, Some, None, Result, Ok, Err, true, false, inl, inr, ap, sym, subst, refl,
-  ◌∙◌, arith,
-}
+use Rattle.std.proofs.Common.{◌≡◌, ◌≤◌, ◌<◌, ◌^◌, ℕ, List, length, Option, Some, None, Result, Ok, Err, true, false}
+use Rattle.std.proofs.Common.{inl, inr, ap, sym, subst, refl, ◌∙◌, arith}
 use Rattle.std.specs.Prelude.{nat_le, IsErr, IfErr, IfSome}
 use Rattle.std.specs.Result.{IsErrAnd}
 use Rattle.journal.specs.Grammar.{journal_of}
@@ -90,7 +88,7 @@ pub replay_refused : (r : Result ℕ Fault) (text : List ℕ) (read : journals.J
 replay_refused (Ok count) text read entries fault becomes le spelt same illegal = absurd becomes.1
 replay_refused (Err e) text read entries (replay.Illegal place) becomes le spelt same illegal =
     subst (JudgeRefuses text) (sym becomes.1)
-        (inr (refl, audit_answer-illegal text read place le spelt (rw same at illegal place refl)))
+    (inr (refl, audit_answer-illegal text read place le spelt (rw same at illegal place refl)))
 replay_refused (Err e) text read entries replay.Memory becomes le spelt same illegal =
     subst (JudgeRefuses text) (sym becomes.1) (inl refl)
 
@@ -163,7 +161,7 @@ pub text_refused : {T : Type 0} (r : Result T Fault) (left new_left : Option (Li
 text_refused (Ok found) left new_left faults new_faults why becomes refused = tt
 text_refused (Err e) left new_left faults new_faults why becomes refused =
     subst (λ (f : Fault). StopsUnwritten Audit (inputs_of left) (inputs_of new_left) faults new_faults f)
-        (sym becomes.1) (text-stops left new_left faults new_faults why refused)
+    (sym becomes.1) (text-stops left new_left faults new_faults why refused)
 
 known : (left : Option (List ℕ)) (text : List ℕ) (fault : Fault) → IsText left text → audit_answer text ≡ Err fault →
     Answers IsOutside (verdict_of Audit (inputs_of left)) (Err fault)

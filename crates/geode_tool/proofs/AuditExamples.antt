@@ -3,11 +3,10 @@ use Rattle.std.proofs.Common.{◌≡◌, ℕ, List, [], ◌∷◌, ◌++◌, Som
 use Rattle.std.specs.Fmt.{digits}
 use Rattle.std.specs.List.{join_with_byte}
 use Rattle.hex.specs.Hex.{decode_pairs}
-use Rattle.journal.specs.Grammar.{
-  number_of, digest_of, single_number_of, frame_and_pages_of, pages_until_missing_of, settle_of, take_of, install_of,
-  fail_of, spoilt_digest_of, spoilt_grammar_of, spoilt_short_of, spoilt_of, spoil_of, event_without_list_of, event_of,
-  entry_of, layout_of, with_upper, with_entry, with_line, with_all_uppers,
-}
+use Rattle.journal.specs.Grammar.{number_of, digest_of, single_number_of, frame_and_pages_of, pages_until_missing_of}
+use Rattle.journal.specs.Grammar.{settle_of, take_of, install_of, fail_of, spoilt_digest_of, spoilt_grammar_of}
+use Rattle.journal.specs.Grammar.{spoilt_short_of, spoilt_of, spoil_of, event_without_list_of, event_of, entry_of}
+use Rattle.journal.specs.Grammar.{layout_of, with_upper, with_entry, with_line, with_all_uppers}
 use Rattle.geode_tool.specs.declared.commands.Command.TheVariants.{Audit}
 use Rattle.geode_tool.specs.declared.faults.Fault.TheVariants.{BadJournal, Illegal}
 use Rattle.geode_tool.specs.Audit.{audit_answer, verdict_text}

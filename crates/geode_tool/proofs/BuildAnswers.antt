@@ -1,8 +1,6 @@
 -- What a DAG that was built, or a fault before it, says of the promise of `build`.
-use Rattle.std.proofs.Common.{
-  ◌≡◌, ◌==◌, ◌∙◌, ◌≤◌, ℕ, List, Bool, true, false, Option, Some, None, Result, Ok, Err, pos, inl, inr, ap, sym, subst,
-  refl, cond,
-}
+use Rattle.std.proofs.Common.{◌≡◌, ◌==◌, ◌∙◌, ◌≤◌, ℕ, List, Bool, true, false, Option, Some, None, Result, Ok, Err, pos}
+use Rattle.std.proofs.Common.{inl, inr, ap, sym, subst, refl, cond}
 use Rattle.std.specs.Prelude.{IsErr, IfErr}
 use Rattle.std.specs.Result.{IsErrAnd}
 use Rattle.geom_core.specs.declared.limits.TheConstants.{STEPS_PER_UNIT}
@@ -57,7 +55,7 @@ all_rules : (tris : List Tri) (dag : Dag) → AreGridTriangles tris → IsBuilt 
     dag_breaks rule dag index ≡ false
 all_rules tris dag mesh built rule index =
     no_rule (rule == 6) (rule == 7) (rule == 8) (breaks_sums dag index) (breaks_source dag index)
-        (breaks_corners dag index)
+    (breaks_corners dag index)
     (edge_sums tris dag index mesh built) (each_source tris dag index mesh built) (corners tris dag index mesh built)
 
 pub built_from : (left : Option (List ℕ)) (tris : List Tri) (dag laid : Dag) → Listed STEPS_PER_UNIT left tris →
@@ -83,8 +81,13 @@ any_request : DrawRequest
 any_request = record {
   size = record { width = 1; height = 1 };
   camera = record {
-    focal = 1; near = 1; tolerance = 0; eye = record { x = pos 0; y = pos 0; z = pos 0 };
-    right = no_direction; down = no_direction; forward = no_direction;
+    focal = 1;
+    near = 1;
+    tolerance = 0;
+    eye = record { x = pos 0; y = pos 0; z = pos 0 };
+    right = no_direction;
+    down = no_direction;
+    forward = no_direction;
   };
 }
 
@@ -113,7 +116,7 @@ pub mesh_refused : {T : Type 0} (r : Result T Fault) (left new_left : Option (Li
     IfErr r (StopsUnwritten Build (inputs_of left) (inputs_of new_left) faults new_faults)
 mesh_refused r left new_left faults new_faults why becomes refused reads =
     all_as_build r left new_left faults new_faults
-        (obj_refused r any_request left new_left faults new_faults why becomes refused reads)
+    (obj_refused r any_request left new_left faults new_faults why becomes refused reads)
 
 -- no memory for the DAG
 pub dag_refused : {T : Type 0} (r : Result T Fault) (left new_left : Option (List ℕ)) (faults new_faults : ℕ) →
@@ -121,7 +124,7 @@ pub dag_refused : {T : Type 0} (r : Result T Fault) (left new_left : Option (Lis
     IfErr r (StopsUnwritten Build (inputs_of left) (inputs_of new_left) faults new_faults)
 dag_refused r left new_left faults new_faults becomes =
     all_as_build r left new_left faults new_faults
-        (memory_refused r any_request left new_left faults new_faults becomes)
+    (memory_refused r any_request left new_left faults new_faults becomes)
 
 -- ---- the file
 
@@ -131,8 +134,11 @@ pub file_made : (left new_left : Option (List ℕ)) (faults new_faults : ℕ) (l
     IsMade Build left new_left faults new_faults (Built counts) (file_bytes laid)
 file_made left new_left faults new_faults laid counts built counted ended no_fault = record {
   does =
-      record { counts = counts; told = refl; file =
-      record { laid = laid; built = built; file = refl; counted = counted } };
+      record {
+        counts = counts;
+        told = refl;
+        file = record { laid = laid; built = built; file = refl; counted = counted };
+      };
   accepted = accepted_built left counts built.tris built.listed;
   input_read = ended;
   reads = record { reading = λ why e. absurd (write-reads why e); writing = λ e. ended };
@@ -168,5 +174,5 @@ file_refused written flushed count left new_left faults new_faults old new r wri
     prefix same le =
     let part = prefix refl in
     promise-unwritten Build left new_left faults new_faults (written old) (written new) (flushed old) (flushed new)
-        (count old) (count new)
+    (count old) (count new)
     old new r WriteFault (Built counts) text becomes refl made (rose refl) (part.count, part.within, part.appended)

@@ -1,7 +1,6 @@
 -- The camera of a word, from the numbers between its commas.
-use Rattle.std.specs.Prelude.{
-  ◌≡◌, ◌==◌, ℕ, ℤ, List, Option, Some, None, Result, Ok, Err, IfSome, is_none, if◌then◌else◌, refl,
-}
+use Rattle.std.specs.Prelude.{◌≡◌, ◌==◌, ℕ, ℤ, List, Option, Some, None, Result, Ok, Err, IfSome, is_none}
+use Rattle.std.specs.Prelude.{if◌then◌else◌, refl}
 use Rattle.std.specs.List.{slice_split}
 use Rattle.std.specs.Str.{byte}
 use Rattle.std.specs.Result.{result_ok}

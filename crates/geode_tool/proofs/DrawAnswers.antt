@@ -143,7 +143,7 @@ pub obj_refused : {T : Type 0} (r : Result T Fault) (request : DrawRequest) (lef
 obj_refused (Ok text) request left new_left faults new_faults why becomes refused reads = absurd becomes.1
 obj_refused (Err e) request left new_left faults new_faults why becomes refused reads =
     subst (λ (f : Fault). StopsUnwritten (Draw request) (inputs_of left) (inputs_of new_left) faults new_faults f)
-        (sym becomes.1) (obj-stops request left new_left faults new_faults why refused reads)
+    (sym becomes.1) (obj-stops request left new_left faults new_faults why refused reads)
 
 memory-reads : (left new_left : Option (List ℕ)) (why : ObjFault) → Memory ≡ fault_of_obj why →
     ReadsUpTo STEPS_PER_UNIT left new_left why
@@ -161,7 +161,7 @@ pub memory_refused : {T : Type 0} (r : Result T Fault) (request : DrawRequest) (
 memory_refused (Ok text) request left new_left faults new_faults becomes = tt
 memory_refused (Err e) request left new_left faults new_faults becomes =
     subst (λ (f : Fault). StopsUnwritten (Draw request) (inputs_of left) (inputs_of new_left) faults new_faults f)
-        (sym becomes.1) (record {
+    (sym becomes.1) (record {
       answered = outside-answers (verdict_of (Draw request) (inputs_of left)) Memory refl;
       may_return = inl refl;
       cause = λ e. cc;

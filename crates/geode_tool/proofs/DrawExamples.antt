@@ -1,9 +1,7 @@
 -- Worked examples of what `draw` refuses, and of a spot that no pixel shows. The spot's place is by hand.
 use native.Mathlib.Omega.{arith}
-use Rattle.std.proofs.Common.{
-  ◌≡◌, ◌∙◌, ap, ℕ, ◌+◌, ◌<◌, nat_le, true, false, List, [], ◌∷◌, ◌++◌, length, take, Result, Ok, Err, pos, negsuc,
-  replicate, append-nil, refl,
-}
+use Rattle.std.proofs.Common.{◌≡◌, ◌∙◌, ap, ℕ, ◌+◌, ◌<◌, nat_le, true, false, List, [], ◌∷◌, ◌++◌, length, take, Result}
+use Rattle.std.proofs.Common.{Ok, Err, pos, negsuc, replicate, append-nil, refl}
 use Rattle.std.proofs.lemmas.List.{length-replicate}
 use Rattle.geom_core.specs.declared.limits.TheConstants.{MAX_OBJ_BYTES, MAX_TRIANGLES, STEPS_PER_UNIT}
 use Rattle.geom_core.specs.declared.screens.Size.{Size}
@@ -56,7 +54,7 @@ pub mesh-long : (text : List ℕ) (so_far : MeshSoFar) → MAX_OBJ_BYTES < lengt
 unfolding mesh
 mesh-long text so_far too_long read =
     rw (over_the_limit (length text) too_long)
-        (ap (λ (r : Result MeshSoFar ObjFault). r >>= (λ mesh_so_far. Err TooLong)) read)
+    (ap (λ (r : Result MeshSoFar ObjFault). r >>= (λ mesh_so_far. Err TooLong)) read)
 
 -- three columns and five rows, seen along an axis at a focal length of three pixels
 abbrev ahead : View

@@ -1,8 +1,6 @@
 -- The words of `draw`, one after another.
-use Rattle.std.specs.Prelude.{
-  ◌≡◌, ◌≢◌, ◌<◌, ◌≤◌, ℕ, List, [], ◌∷◌, length, map, Option, Some, None, option_and_then, bytes_eq, codes, Bool, true,
-  false, not, refl,
-}
+use Rattle.std.specs.Prelude.{◌≡◌, ◌≢◌, ◌<◌, ◌≤◌, ℕ, List, [], ◌∷◌, length, map, Option, Some, None, option_and_then}
+use Rattle.std.specs.Prelude.{bytes_eq, codes, Bool, true, false, not, refl}
 use Rattle.std.specs.Borrow.{Bor}
 use Rattle.std.proofs.Common.{arith, sym, ◌∙◌, get_or}
 use Rattle.std.proofs.lemmas.List.{length-map}

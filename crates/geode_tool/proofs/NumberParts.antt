@@ -1,8 +1,6 @@
 -- The numbers of parts, one part after another.
-use Rattle.std.specs.Prelude.{
-  ◌≡◌, ◌≢◌, ◌==◌, ◌+◌, ◌<◌, ℕ, suc, ℤ, true, false, List, [], ◌∷◌, ◌++◌, length, take, drop, FitsSigned, Option, Some,
-  None, option_map, option_and_then, refl,
-}
+use Rattle.std.specs.Prelude.{◌≡◌, ◌≢◌, ◌==◌, ◌+◌, ◌<◌, ℕ, suc, ℤ, true, false, List, [], ◌∷◌, ◌++◌, length, take, drop}
+use Rattle.std.specs.Prelude.{FitsSigned, Option, Some, None, option_map, option_and_then, refl}
 use Rattle.std.proofs.Common.{arith, ap, sym, subst, ◌∙◌, get_or, append_assoc, set, to_z, of_z, w64}
 use Rattle.std.proofs.lemmas.Bool.Decides.{nat_tests}
 use Rattle.std.proofs.lemmas.Int.{to_z-of_z}
@@ -48,7 +46,7 @@ numbers_of-length : (parts : List (List ℕ)) → HasLength (length parts) (numb
 numbers_of-length [] = refl
 numbers_of-length (part ∷ parts) =
     subst (HasLength (suc (length parts))) (sym (numbers_of-cons part parts))
-        (before-length (signed_number 11 part) (numbers_of parts) (length parts) (numbers_of-length parts))
+    (before-length (signed_number 11 part) (numbers_of parts) (length parts) (numbers_of-length parts))
 
 not_fifteen : (n : ℕ) → n ≢ 15 → (n == 15) ≡ false
 not_fifteen n h = grind (arith, nat_tests)
@@ -85,7 +83,7 @@ fifteen-none parts numbers count n part e next so_far none =
     let rest = numbers_of (drop (count + 1) parts) in
     let here : IsNext parts count part = subst (λ (k : ℕ). IsNext parts k part) (sym e) next in
     let nothing : numbers_of (drop count parts) ≡ None =
-        numbers_of-drop parts count part here.0 here.1 ∙ ap (λ m. number_before m rest) none in
+    numbers_of-drop parts count part here.0 here.1 ∙ ap (λ m. number_before m rest) none in
     sym (ap fifteen (sym so_far ∙ ap (option_map (λ ns. take count numbers ++ ns)) nothing))
 
 before-set : (numbers : List ℤ) (count : ℕ) (m : ℤ) (ns : Option (List ℤ)) → count < length numbers →
@@ -94,7 +92,7 @@ before-set : (numbers : List ℤ) (count : ℕ) (m : ℤ) (ns : Option (List ℤ
 before-set numbers count m None h = refl
 before-set numbers count m (Some ns) h =
     ap Some (sym (ap (λ xs. xs ++ ns) (take_more_set numbers count m h) ∙
-        append_assoc (take count numbers) (m ∷ []) ns))
+    append_assoc (take count numbers) (m ∷ []) ns))
 
 -- one number more, as the code stores it
 pub SoFar-more : (parts : List (List ℕ)) (numbers : List ℤ) (count n : ℕ) (part : List ℕ) (m : ℤ) → count ≡ n →
@@ -115,10 +113,10 @@ pub fifteen-all : (parts : List (List ℕ)) (numbers : List ℤ) (count n : ℕ)
 fifteen-all parts numbers count n e full end whole so_far =
     let none_left : drop count parts ≡ [] = drop_all count parts (omega arith) in
     let all_there : take count numbers ++ [] ≡ numbers =
-        append-nil (take count numbers) ∙ take_all count numbers (omega arith) in
+    append-nil (take count numbers) ∙ take_all count numbers (omega arith) in
     let same : Some numbers ≡ numbers_of parts =
-        ap Some (sym all_there) ∙ ap (λ ps. option_map (λ ns. take count numbers ++ ns) (numbers_of ps)) (sym none_left)
-        ∙ so_far in
+    ap Some (sym all_there) ∙ ap (λ ps. option_map (λ ns. take count numbers ++ ns) (numbers_of ps)) (sym none_left)
+    ∙ so_far in
     let test : (length numbers == 15) ≡ true = grind (arith, nat_tests) in
     let kept : fifteen (Some numbers) ≡ Some numbers = rw test refl in
     sym kept ∙ ap fifteen same

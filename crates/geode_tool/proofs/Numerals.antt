@@ -1,7 +1,6 @@
 -- The value of digits, digit by digit.
-use Rattle.std.specs.Prelude.{
-  ◌≡◌, ◌+◌, ◌-◌, ◌*◌, ◌<◌, ◌≤◌, ◌^◌, ℕ, List, length, take, Bool, true, false, ◌&&◌, nat_lt, nat_le, refl,
-}
+use Rattle.std.specs.Prelude.{◌≡◌, ◌+◌, ◌-◌, ◌*◌, ◌<◌, ◌≤◌, ◌^◌, ℕ, List, length, take, Bool, true, false, ◌&&◌, nat_lt}
+use Rattle.std.specs.Prelude.{nat_le, refl}
 use Rattle.std.specs.Char.{digit_value, is_ascii_digit}
 use Rattle.std.specs.List.{list_all}
 use Rattle.std.specs.Str.Parse.{digits_value}
@@ -10,9 +9,8 @@ use Rattle.geode_tool.specs.Words.{is_numeral}
 use Rattle.std.proofs.Common.{arith, rules, tests, get_or, lit≤}
 use Rattle.std.proofs.lemmas.Bool.Decides.{nat_tests}
 use Rattle.std.proofs.lemmas.Int.Digits.{digits_value_more}
-use Rattle.std.proofs.lemmas.Str.Parse.{
-  IsNumeralModel, numerals_by_value, digit_at, digits_value_short, digits_value-take-le,
-}
+use Rattle.std.proofs.lemmas.Str.Parse.{IsNumeralModel, numerals_by_value, digit_at, digits_value_short}
+use Rattle.std.proofs.lemmas.Str.Parse.{digits_value-take-le}
 
 model : IsNumeralModel (λ ds. list_all is_ascii_digit ds ≡ true) (digits_value 10)
 model = numerals_by_value (λ ds. list_all is_ascii_digit ds ≡ true) (search rules)
@@ -31,7 +29,7 @@ pub digits_value-step : (ds : List ℕ) (i n d : ℕ) → list_all is_ascii_digi
 digits_value-step ds i n d p h e f =
     let c = digit_range ds i p h in
     let v : digit_value (get_or ds i 0) ≡ get_or ds i 0 - 48 =
-        digit_value_is (get_or ds i 0) (omega (arith, c)) (omega (arith, c)) in
+    digit_value_is (get_or ds i 0) (omega (arith, c)) (omega (arith, c)) in
     omega (arith, digits_value_more 10 ds i h)
 
 -- the value of the first of at most 18 digits

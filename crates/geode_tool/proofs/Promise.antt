@@ -1,7 +1,6 @@
 -- What the promise of a command says, for each way that its call ends.
-use Rattle.std.proofs.Common.{
-  ◌≡◌, ◌≢◌, ◌≤◌, ℕ, List, Bool, true, length, take, Option, Result, Ok, Err, inl, inr, sym, subst, refl, ◌∙◌, arith,
-}
+use Rattle.std.proofs.Common.{◌≡◌, ◌≢◌, ◌≤◌, ℕ, List, Bool, true, length, take, Option, Result, Ok, Err, inl, inr, sym}
+use Rattle.std.proofs.Common.{subst, refl, ◌∙◌, arith}
 use Rattle.std.specs.Prelude.{IsErr, IfErr}
 use Rattle.std.specs.Result.{IsErrAnd}
 use Rattle.span_io.specs.Faults.{Rose}
@@ -10,9 +9,8 @@ use Rattle.geode_tool.specs.declared.commands.Command.{Command}
 use Rattle.geode_tool.specs.declared.commands.Command.TheVariants.{Draw, Audit, Make, Build}
 use Rattle.geode_tool.specs.declared.faults.Done.{Done}
 use Rattle.geode_tool.specs.declared.faults.Fault.{Fault}
-use Rattle.geode_tool.specs.declared.faults.Fault.TheVariants.{
-  Usage, ReadFault, TooLong, BadObj, TooMany, Empty, BadJournal, Illegal, WriteFault, Memory,
-}
+use Rattle.geode_tool.specs.declared.faults.Fault.TheVariants.{Usage, ReadFault, TooLong, BadObj, TooMany, Empty}
+use Rattle.geode_tool.specs.declared.faults.Fault.TheVariants.{BadJournal, Illegal, WriteFault, Memory}
 use Rattle.geode_tool.specs.declared.faults.UsageKind.{UsageKind}
 use Rattle.geode_tool.specs.Commands.{verdict_of, Does, HasRead, ReadsUpTo}
 use Rattle.geode_tool.specs.FaultTable.{IsMemory, IsOutside, MayReturn}
@@ -77,8 +75,8 @@ promise-refused command left new_left faults new_faults written flushed output_f
 promise-refused command left new_left faults new_faults written flushed output_faults output
     (Err e) fault becomes given count =
     let stops =
-        subst (λ (f : Fault). StopsUnwritten command (inputs_of left) (inputs_of new_left) faults new_faults f)
-        (sym becomes.1) given in record {
+    subst (λ (f : Fault). StopsUnwritten command (inputs_of left) (inputs_of new_left) faults new_faults f)
+    (sym becomes.1) given in record {
       answered = stops.answered;
       complete =
           λ no_read no_write. complete-answers (verdict_of command (inputs_of left)) e
@@ -121,7 +119,7 @@ promise-unwritten command left new_left faults new_faults written new_written fl
     new_output_faults output new_output (Err e) fault done text becomes is made rose prefix =
     let same : WriteFault ≡ e = sym (becomes.1 ∙ is) in
     subst (λ (f : Fault). Holds command (streams left faults written flushed output_faults output)
-        (streams new_left new_faults new_written new_flushed new_output_faults new_output) (Err f)) same (record {
+    (streams new_left new_faults new_written new_flushed new_output_faults new_output) (Err f)) same (record {
       answered = outside-answers (verdict_of command (inputs_of left)) WriteFault refl;
       complete = λ no_read no_write. absurd (no_write rose);
       written = tt;
@@ -132,8 +130,13 @@ promise-unwritten command left new_left faults new_faults written new_written fl
       reads = made.reads;
       prefix = record {
         write_fault =
-            λ same. record { text = text; is_output = (done, made.does); count = prefix.0; within = prefix.1; appended =
-            prefix.2 };
+            λ same. record {
+              text = text;
+              is_output = (done, made.does);
+              count = prefix.0;
+              within = prefix.1;
+              appended = prefix.2;
+            };
         memory = λ other. cc;
       };
       output_unchanged = λ no_write no_memory. absurd (no_write refl);
@@ -151,21 +154,24 @@ pub promise-done : {K : Type 0} (command : Command) (left new_left : Option (Lis
     (streams new_left new_faults new_written new_flushed new_output_faults new_output) (Ok done)
 promise-done command left new_left faults new_faults written new_written flushed new_flushed output_faults
     new_output_faults output new_output done text made appended is_flushed no_fault = record {
-  answered = made.accepted;
-  complete = λ no_read no_write. success-answers (verdict_of command (inputs_of left)) done made.accepted;
-  written = record { text = text; is_output = made.does; appended = appended };
-  flushed = is_flushed;
-  input_read = made.input_read;
-  refusals = tt;
-  causes = tt;
-  reads = tt;
-  prefix = tt;
-  output_unchanged = tt;
-  memory = λ first. tt;
-  counts =
-      record { input = omega (arith, made.no_fault); output = omega (arith, no_fault); none_in_success =
-      (made.no_fault, no_fault) };
-}
+      answered = made.accepted;
+      complete = λ no_read no_write. success-answers (verdict_of command (inputs_of left)) done made.accepted;
+      written = record { text = text; is_output = made.does; appended = appended };
+      flushed = is_flushed;
+      input_read = made.input_read;
+      refusals = tt;
+      causes = tt;
+      reads = tt;
+      prefix = tt;
+      output_unchanged = tt;
+      memory = λ first. tt;
+      counts =
+          record {
+            input = omega (arith, made.no_fault);
+            output = omega (arith, no_fault);
+            none_in_success = (made.no_fault, no_fault);
+          };
+    }
 
 -- no command returns a fault of the words
 no_words : (command : Command) (kind : UsageKind) → MayReturn command (Usage kind) → ⊥

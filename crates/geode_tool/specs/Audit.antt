@@ -1,8 +1,6 @@
 -- `audit`: its verdict on the input, what a success is, and how far it reads before a refusal.
-use Rattle.std.specs.Prelude.{
-  ◌≡◌, ◌+◌, ◌≤◌, nat_le, ℕ, List, [], ◌∷◌, ◌++◌, length, drop, codes, Option, Some, None, option_map, Result, Ok, Err,
-  if◌then◌else◌,
-}
+use Rattle.std.specs.Prelude.{◌≡◌, ◌+◌, ◌≤◌, nat_le, ℕ, List, [], ◌∷◌, ◌++◌, length, drop, codes, Option, Some, None}
+use Rattle.std.specs.Prelude.{option_map, Result, Ok, Err, if◌then◌else◌}
 use Rattle.std.specs.Fmt.{decimal}
 use Rattle.geom_core.specs.declared.limits.TheConstants.{MAX_JOURNAL_BYTES}
 use Rattle.journal.specs.Grammar.{journal_of}

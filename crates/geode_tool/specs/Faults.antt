@@ -10,9 +10,8 @@ use Rattle.page_file.specs.declared.page_writes.PageWrite.TheVariants as pages
 use Rattle.span_io.specs.declared.texts.TextFault.{TextFault}
 use Rattle.span_io.specs.declared.texts.TextFault.TheVariants as text
 use Rattle.geode_tool.specs.declared.faults.Fault.{Fault}
-use Rattle.geode_tool.specs.declared.faults.Fault.TheVariants.{
-  ReadFault, TooLong, BadObj, TooMany, Empty, BadJournal, Illegal, WriteFault, Memory,
-}
+use Rattle.geode_tool.specs.declared.faults.Fault.TheVariants.{ReadFault, TooLong, BadObj, TooMany, Empty, BadJournal}
+use Rattle.geode_tool.specs.declared.faults.Fault.TheVariants.{Illegal, WriteFault, Memory}
 
 -- from reading a mesh
 abbrev pub fault_of_obj : ObjFault → Fault

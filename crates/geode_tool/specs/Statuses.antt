@@ -2,9 +2,8 @@
 use Rattle.std.specs.Prelude.{ℕ, Result, Ok, Err}
 use Rattle.geode_tool.specs.declared.faults.Done.{Done}
 use Rattle.geode_tool.specs.declared.faults.Fault.{Fault}
-use Rattle.geode_tool.specs.declared.faults.Fault.TheVariants.{
-  Usage, ReadFault, TooLong, BadObj, TooMany, Empty, BadJournal, Illegal, WriteFault, Memory,
-}
+use Rattle.geode_tool.specs.declared.faults.Fault.TheVariants.{Usage, ReadFault, TooLong, BadObj, TooMany, Empty}
+use Rattle.geode_tool.specs.declared.faults.Fault.TheVariants.{BadJournal, Illegal, WriteFault, Memory}
 
 -- the status of a fault; 0 is the status of success
 abbrev pub status_of : Fault → ℕ

@@ -1,9 +1,8 @@
 -- The words of the commands: `draw` with a width, a height and a camera, `audit` and `build` alone, and `make` with a
 -- size and a number.
-use Rattle.std.specs.Prelude.{
-  ◌==◌, ◌&&◌, ◌^◌, ℕ, ℤ, pos, neg_ℤ, nat_lt, nat_le, Bool, false, List, [], ◌∷◌, length, drop, slice_index, Option,
-  Some, None, option_map, option_and_then, is_none, bytes_eq, codes, if◌then◌else◌,
-}
+use Rattle.std.specs.Prelude.{◌==◌, ◌&&◌, ◌^◌, ℕ, ℤ, pos, neg_ℤ, nat_lt, nat_le, Bool, false, List, [], ◌∷◌, length}
+use Rattle.std.specs.Prelude.{drop, slice_index, Option, Some, None, option_map, option_and_then, is_none, bytes_eq}
+use Rattle.std.specs.Prelude.{codes, if◌then◌else◌}
 use Rattle.std.specs.List.{slice_split, list_all}
 use Rattle.std.specs.Char.{is_ascii_digit}
 use Rattle.std.specs.Str.{byte}

@@ -6,9 +6,9 @@
 #![tactic(auto)]
 
 mod audit_command;
-mod build_command;
 #[cfg(test)]
 mod audit_tests;
+mod build_command;
 mod commands;
 mod draw_command;
 mod draw_mesh;

@@ -1,8 +1,6 @@
 -- A crossing goes by which of its ends the height has reached, and by the side of the point.
-use Rattle.std.proofs.Common.{
-  ◌≡◌, ◌&&◌, Bool, true, false, not, ℤ, pos, negsuc, ◌+ℤ◌, neg_ℤ, int_lt, int_le, if◌then◌else◌, refl, sym, ap, ◌∙◌,
-  arith,
-}
+use Rattle.std.proofs.Common.{◌≡◌, ◌&&◌, Bool, true, false, not, ℤ, pos, negsuc, ◌+ℤ◌, neg_ℤ, int_lt, int_le}
+use Rattle.std.proofs.Common.{if◌then◌else◌, refl, sym, ap, ◌∙◌, arith}
 use Rattle.std.proofs.lemmas.Int.{ints}
 use Rattle.geom_core.specs.declared.screens.Spot.{Spot}
 use Rattle.geom_core.specs.Winding.{edge_function, passes, crossing, winding}

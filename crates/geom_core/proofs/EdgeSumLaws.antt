@@ -1,8 +1,6 @@
 -- Edge sums: turned edges, joined lists, and the triangles that change nothing.
-use Rattle.std.proofs.Common.{
-  ◌≡◌, ℕ, ◌+◌, Bool, true, false, not, ◌&&◌, ℤ, pos, ◌+ℤ◌, ◌-ℤ◌, neg_ℤ, List, [], ◌∷◌, ◌++◌, sum_by, flat_map,
-  IsPermutation, if◌then◌else◌, refl, sym, ap, ◌∙◌, arith,
-}
+use Rattle.std.proofs.Common.{◌≡◌, ℕ, ◌+◌, Bool, true, false, not, ◌&&◌, ℤ, pos, ◌+ℤ◌, ◌-ℤ◌, neg_ℤ, List, [], ◌∷◌, ◌++◌}
+use Rattle.std.proofs.Common.{sum_by, flat_map, IsPermutation, if◌then◌else◌, refl, sym, ap, ◌∙◌, arith}
 use Rattle.std.proofs.lemmas.Int.{ints}
 use Rattle.std.proofs.lemmas.Grind.{flat_map-append}
 use Rattle.std.proofs.lemmas.List.Sums.{sum_by-append}

@@ -1,9 +1,8 @@
 -- The ranges of coordinates, points, triangles, pictures and spots, over the numbers of `limits.rt`. A range that
 -- a file format decides is a Bool, with its fact on top.
 use Rattle.std.specs.Prelude.{Bool, not, ◌&&◌, ◌≤◌, ◌^◌, ℕ, ℤ, unsigned_abs, nat_le, nat_lt, IsTrue, List, length, All}
-use Rattle.geom_core.specs.declared.limits.TheConstants.{
-  MAX_TRIANGLES, MAX_COORDINATE, MAX_EYE, MAX_STEPS_PER_UNIT, MAX_SIDE, MAX_SCREEN_COORDINATE, MAX_DEPTH, CLUSTER_BITS,
-}
+use Rattle.geom_core.specs.declared.limits.TheConstants.{MAX_TRIANGLES, MAX_COORDINATE, MAX_EYE, MAX_STEPS_PER_UNIT}
+use Rattle.geom_core.specs.declared.limits.TheConstants.{MAX_SIDE, MAX_SCREEN_COORDINATE, MAX_DEPTH, CLUSTER_BITS}
 use Rattle.geom_core.specs.declared.points.Pt.{Pt}
 use Rattle.geom_core.specs.declared.triangles.Tri.{Tri}
 use Rattle.geom_core.specs.declared.screens.Spot.{Spot}

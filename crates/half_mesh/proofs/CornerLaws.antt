@@ -1,8 +1,6 @@
 -- The corners of a list of triangles, and the triangles round a point.
-use Rattle.std.proofs.Common.{
-  ◌≡◌, ℕ, ◌+◌, ◌<◌, Bool, true, false, not, ◌&&◌, ◌||◌, List, [], ◌∷◌, ◌++◌, length, take, get_or, map, filter,
-  flat_map, cond, refl, sym, ap, ◌∙◌, arith,
-}
+use Rattle.std.proofs.Common.{◌≡◌, ℕ, ◌+◌, ◌<◌, Bool, true, false, not, ◌&&◌, ◌||◌, List, [], ◌∷◌, ◌++◌, length, take}
+use Rattle.std.proofs.Common.{get_or, map, filter, flat_map, cond, refl, sym, ap, ◌∙◌, arith}
 use Rattle.std.proofs.lemmas.List.{append-nil, map-append, take_more, length-take-le}
 use Rattle.std.proofs.lemmas.List.Elements.{filter-append}
 use Rattle.std.proofs.lemmas.Grind.{flat_map-append}
@@ -33,9 +31,9 @@ corners_of-more tris n d in_bounds =
     ap corners_of (take_more tris n d in_bounds) ∙
     ap (flat_map (λ ((k, u) : ℕ × Tri). corners_at k u)) (enumerate_from-push 0 (take n tris) t) ∙
     flat_map-append (λ ((k, u) : ℕ × Tri). corners_at k u) (enumerate_from 0 (take n tris))
-        ((0 + length (take n tris), t) ∷ []) ∙
+    ((0 + length (take n tris), t) ∷ []) ∙
     ap (λ l. corners_of (take n tris) ++ l) (append-nil (corners_at (0 + length (take n tris)) t) ∙
-        ap (λ k. corners_at k t) place)
+    ap (λ k. corners_at k t) place)
 
 and-false : (b : Bool) → b && false ≡ false
 and-false true = refl
@@ -76,19 +74,22 @@ at_point-corners_at : (p : Pt) (k : ℕ) (t : Tri) →
 unfolding corners_at has_corner
 at_point-corners_at p k t =
     ap whats (filter-append (is_at p) (corner_at k t.a false ++ corner_at k t.b (same_point t.b t.a))
-        (corner_at k t.c (same_point t.c t.a || same_point t.c t.b)) ∙
+    (corner_at k t.c (same_point t.c t.a || same_point t.c t.b)) ∙
     ap (λ l. l ++ at_point p (corner_at k t.c (same_point t.c t.a || same_point t.c t.b)))
     (filter-append (is_at p) (corner_at k t.a false) (corner_at k t.b (same_point t.b t.a)))) ∙
     map-append (λ (incidence : Incidence ℕ). incidence.what)
-        (at_point p (corner_at k t.a false) ++ at_point p (corner_at k t.b (same_point t.b t.a)))
-        (at_point p (corner_at k t.c (same_point t.c t.a || same_point t.c t.b))) ∙
+    (at_point p (corner_at k t.a false) ++ at_point p (corner_at k t.b (same_point t.b t.a)))
+    (at_point p (corner_at k t.c (same_point t.c t.a || same_point t.c t.b))) ∙
     ap (λ l. l ++ whats (at_point p (corner_at k t.c (same_point t.c t.a || same_point t.c t.b))))
     (map-append (λ (incidence : Incidence ℕ). incidence.what) (at_point p (corner_at k t.a false))
-        (at_point p (corner_at k t.b (same_point t.b t.a)))) ∙
-    rw (corner_there p k t.a false, corner_there p k t.b (same_point t.b t.a),
-        corner_there p k t.c (same_point t.c t.a || same_point t.c t.b))
+    (at_point p (corner_at k t.b (same_point t.b t.a)))) ∙
+    rw (
+      corner_there p k t.a false,
+      corner_there p k t.b (same_point t.b t.a),
+      corner_there p k t.c (same_point t.c t.a || same_point t.c t.b),
+    )
     (once k (same_point t.a p) (same_point t.b p) (same_point t.c p) (same_point t.b t.a) (same_point t.c t.a)
-        (same_point t.c t.b)
+    (same_point t.c t.b)
     (λ x y. both t.b t.a y x) (λ x y. apart t.b t.a y x) (λ x z. both t.c t.a z x) (λ x z. apart t.c t.a z x)
     (λ y z. both t.c t.b z y) (λ y z. apart t.c t.b z y))
   where
@@ -110,16 +111,16 @@ pub around_from : (p : Pt) (n : ℕ) (tris : List Tri) →
 around_from p n [] = refl
 around_from p n (t ∷ tris) =
     ap whats (filter-append (is_at p) (corners_at n t)
-        (flat_map (λ ((k, u) : ℕ × Tri). corners_at k u) (enumerate_from (n + 1) tris))) ∙
+    (flat_map (λ ((k, u) : ℕ × Tri). corners_at k u) (enumerate_from (n + 1) tris))) ∙
     map-append (λ (incidence : Incidence ℕ). incidence.what) (at_point p (corners_at n t))
-        (at_point p (flat_map (λ ((k, u) : ℕ × Tri). corners_at k u) (enumerate_from (n + 1) tris))) ∙
+    (at_point p (flat_map (λ ((k, u) : ℕ × Tri). corners_at k u) (enumerate_from (n + 1) tris))) ∙
     rw (at_point-corners_at p n t, around_from p (n + 1) tris) (by (has_corner p t))
   where
     by : (b : Bool) → (cond b (n ∷ []) []) ++ map (λ ((k, u) : ℕ × Tri). k)
         (filter (λ ((k, u) : ℕ × Tri). has_corner p u) (enumerate_from (n + 1) tris)) ≡
         map (λ ((k, u) : ℕ × Tri). k) (cond b ((n, t) ∷ filter (λ ((k, u) : ℕ × Tri). has_corner p u)
-            (enumerate_from (n + 1) tris)) (filter (λ ((k, u) : ℕ × Tri). has_corner p u)
-            (enumerate_from (n + 1) tris)))
+        (enumerate_from (n + 1) tris)) (filter (λ ((k, u) : ℕ × Tri). has_corner p u)
+        (enumerate_from (n + 1) tris)))
     by true = refl
     by false = refl
 

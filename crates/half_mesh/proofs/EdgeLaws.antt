@@ -1,8 +1,6 @@
 -- Edges: their order, when two are one, and edge sums.
-use Rattle.std.proofs.Common.{
-  ◌≡◌, ◌≢◌, ℕ, ◌+◌, ◌≤◌, Bool, true, false, not, ◌&&◌, ℤ, pos, ◌-ℤ◌, List, [], ◌∷◌, length, cond, Ordering, FitsSigned,
-  w32, refl, sym, ap, ◌∙◌, rules, arith,
-}
+use Rattle.std.proofs.Common.{◌≡◌, ◌≢◌, ℕ, ◌+◌, ◌≤◌, Bool, true, false, not, ◌&&◌, ℤ, pos, ◌-ℤ◌, List, [], ◌∷◌, length}
+use Rattle.std.proofs.Common.{cond, Ordering, FitsSigned, w32, refl, sym, ap, ◌∙◌, rules, arith}
 use Rattle.std.proofs.lemmas.Int.{ints}
 use Rattle.std.proofs.lemmas.Cmp.{then_total, on_total, tied_itself}
 use Rattle.std.specs.Cmp.{IsTotalOrder}
@@ -14,10 +12,9 @@ use Rattle.geom_core.specs.declared.triangles.Tri.{Tri}
 use Rattle.geom_core.specs.EdgeSum.{same_point, edge_count, edge_sum, is_rim_edge}
 use Rattle.geom_core.specs.Order.{is_before, point_cmp}
 use Rattle.geom_core.proofs.EdgeSumLaws.{edge_count-one, edge_count-append, edge_count-none, edge_sum-same}
-use Rattle.geom_core.proofs.PointLaws.{
-  true≢false, point_cmp-total, same_point-is, same_point-from, same_point-refl, same_point-before, same_point-after,
-  before-from_is_before, derived_eq, derived_eq-is,
-}
+use Rattle.geom_core.proofs.PointLaws.{true≢false, point_cmp-total, same_point-is, same_point-from, same_point-refl}
+use Rattle.geom_core.proofs.PointLaws.{same_point-before, same_point-after, before-from_is_before, derived_eq}
+use Rattle.geom_core.proofs.PointLaws.{derived_eq-is}
 use Rattle.half_mesh.specs.declared.edges.Edge.{Edge}
 use Rattle.half_mesh.specs.Order.{edge_cmp}
 use Rattle.half_mesh.specs.Rim.{same_edge}
@@ -114,7 +111,7 @@ one_at_most : (t : Tri) (u v : Pt) → same_point u v ≡ false → edge_count (
 one_at_most t u v apart =
     rw (edge_count-one t u v)
     (by (same_point t.a u) (same_point t.b v) (same_point t.b u) (same_point t.c v) (same_point t.c u)
-        (same_point t.a v)
+    (same_point t.a v)
     (differ t.a) (differ t.b) (differ t.c))
   where
     differ : (w : Pt) → same_point w u ≡ true → same_point w v ≡ false

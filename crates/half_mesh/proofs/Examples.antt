@@ -139,7 +139,7 @@ sum_in_short = refl
 -- of all sums of three parts, none on the way is that of the whole
 pub sum_over_three : sum_in_all (edge_of A B)
     (edge_sums (edge_of A B ∷ []) (pos 2 ∷ []) ∷ edge_sums (edge_of A B ∷ []) (one ∷ []) ∷ edge_sums (edge_of A B ∷ [])
-        (negsuc 2 ∷ []) ∷ []) ≡ pos 0
+    (negsuc 2 ∷ []) ∷ []) ≡ pos 0
 unfolding same_point sum_in sum_in_all
 sum_over_three = refl
 

@@ -1,11 +1,8 @@
 -- Incidences by point: what a stable sort leaves of the incidences at a point, and where these stand in a sorted list.
-use Rattle.std.proofs.Common.{
-  ◌≡◌, ℕ, suc, ◌+◌, ◌-◌, ◌<◌, ◌≤◌, Bool, true, false, not, ◌&&◌, List, [], ◌∷◌, ◌++◌, length, take, drop, get_or,
-  filter, All, Ordering, refl, sym, ap, ◌∙◌, inl, inr, arith,
-}
-use Rattle.std.proofs.lemmas.List.{
-  get_or-drop, get_or-take, length-drop, length-take, take-append-drop, drop-drop, append-nil,
-}
+use Rattle.std.proofs.Common.{◌≡◌, ℕ, suc, ◌+◌, ◌-◌, ◌<◌, ◌≤◌, Bool, true, false, not, ◌&&◌, List, [], ◌∷◌, ◌++◌}
+use Rattle.std.proofs.Common.{length, take, drop, get_or, filter, All, Ordering, refl, sym, ap, ◌∙◌, inl, inr, arith}
+use Rattle.std.proofs.lemmas.List.{get_or-drop, get_or-take, length-drop, length-take, take-append-drop, drop-drop}
+use Rattle.std.proofs.lemmas.List.{append-nil}
 use Rattle.std.proofs.lemmas.List.Elements.{filter-append, filter_agree, All-nil, All-tail, All-head}
 use Rattle.std.proofs.lemmas.List.Sorted.{ranks_by, sorted_far}
 use Rattle.std.proofs.lemmas.List.Sums.{prefix_len-drop_no, prefix_len-drop_yes}
@@ -21,17 +18,16 @@ use Rattle.geom_core.specs.EdgeSum.{same_point}
 use Rattle.geom_core.specs.Order.{is_before, point_cmp}
 use Rattle.half_mesh.specs.declared.incidences.Incidence.{Incidence}
 use Rattle.half_mesh.specs.Incidences.{is_at, at_point, IsByPoint}
-use Rattle.geom_core.proofs.PointLaws.{
-  true≢false, not_both, before-from_is_before, is_before-trans, point_cmp-total, same_point-is, same_point-before,
-  same_point-after, same_point-refl, is_before-itself, placed,
-}
+use Rattle.geom_core.proofs.PointLaws.{true≢false, not_both, before-from_is_before, is_before-trans, point_cmp-total}
+use Rattle.geom_core.proofs.PointLaws.{same_point-is, same_point-before, same_point-after, same_point-refl}
+use Rattle.geom_core.proofs.PointLaws.{is_before-itself, placed}
 use Rattle.geom_core.proofs.PointLaws.Placed.{Before, Same, After}
 
 pub filter-all : {X : Type 0} (p : X → Bool) (xs : List X) → All (λ x. p x ≡ true) xs → filter p xs ≡ xs
 filter-all p [] all = refl
 filter-all {X} p (x ∷ xs) all =
     rw (All-head (λ (x : X). p x ≡ true) x xs all)
-        (ap (λ rest. x ∷ rest) (filter-all p xs (All-tail (λ (x : X). p x ≡ true) x xs all)))
+    (ap (λ rest. x ∷ rest) (filter-all p xs (All-tail (λ (x : X). p x ≡ true) x xs all)))
 
 pub filter-no : {X : Type 0} (p : X → Bool) (xs : List X) → All (λ x. p x ≡ false) xs → filter p xs ≡ []
 filter-no p [] all = refl
@@ -56,7 +52,7 @@ at_point-stable [] (y ∷ ys) same stable p = absurd (omega arith)
 at_point-stable {T} (x ∷ xs) ys same stable p =
     let here : Incidence T = record x { point = p } in
     let agree : (incidence : Incidence T) → is_at p incidence ≡ ties
-        (λ (m n : Incidence T). is_lt (point_cmp m.point n.point)) here incidence =
+    (λ (m n : Incidence T). is_lt (point_cmp m.point n.point)) here incidence =
     λ incidence. sym (not_apart p incidence.point) in
     filter_agree (is_at p) (ties (λ (m n : Incidence T). is_lt (point_cmp m.point n.point)) here) agree ys ∙
     stable here ∙
@@ -71,7 +67,7 @@ pub sorted_later : {T : Type 0} (incidences : List (Incidence T)) → IsByPoint 
     j < length incidences → is_before (get_or incidences j d).point (get_or incidences i d).point ≡ false
 sorted_later {T} incidences sorted i j d upto in_bounds =
     sorted_far (λ (m n : Incidence T). is_lt (point_cmp m.point n.point)) by_point incidences sorted i j d upto
-        in_bounds
+    in_bounds
 
 pub IsByPoint-drop : {T : Type 0} (n : ℕ) (incidences : List (Incidence T)) → IsByPoint incidences →
     IsByPoint (drop n incidences)
@@ -80,7 +76,7 @@ IsByPoint-drop n incidences sorted k d low high =
     let in_bounds : (n + k) + 1 < length incidences = omega arith in
     let next : n + (k + 1) ≡ (n + k) + 1 = omega arith in
     rw (get_or-drop n incidences (k + 1) d, get_or-drop n incidences k d, next)
-        (sorted (n + k) d (omega arith) in_bounds)
+    (sorted (n + k) d (omega arith) in_bounds)
 
 -- the point isn't after p
 abbrev pub is_upto : {T : Type 0} → Pt → Incidence T → Bool
@@ -188,11 +184,11 @@ range_is {T} p incidences from to low high from_in to_in = (ordered incidences l
     parts =
         let sum : from + (to - from) ≡ to = omega (arith, between) in
         let rest : drop (to - from) (drop from incidences) ≡ drop to incidences =
-            drop-drop (to - from) from incidences ∙ ap (λ n. drop n incidences) sum in
+        drop-drop (to - from) from incidences ∙ ap (λ n. drop n incidences) sum in
         sym (take-append-drop from incidences) ∙
         ap (λ l. take from incidences ++ l)
         (sym (take-append-drop (to - from) (drop from incidences)) ∙
-            ap (λ l. take (to - from) (drop from incidences) ++ l) rest)
+        ap (λ l. take (to - from) (drop from incidences) ++ l) rest)
 
     group : take (to - from) (drop from incidences) ≡ at_point p incidences
     group = sym (
@@ -200,6 +196,8 @@ range_is {T} p incidences from to low high from_in to_in = (ordered incidences l
         filter-append (is_at p) (take from incidences) (take (to - from) (drop from incidences) ++ drop to incidences) ∙
         rw (filter-no (is_at p) (take from incidences) front)
         (filter-append (is_at p) (take (to - from) (drop from incidences)) (drop to incidences) ∙
-        rw (filter-all (is_at p) (take (to - from) (drop from incidences)) middle,
-            filter-no (is_at p) (drop to incidences) back)
+        rw (
+          filter-all (is_at p) (take (to - from) (drop from incidences)) middle,
+          filter-no (is_at p) (drop to incidences) back,
+        )
         (append-nil (take (to - from) (drop from incidences)))))

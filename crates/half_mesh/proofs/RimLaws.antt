@@ -1,9 +1,7 @@
 -- Rims as functions of edges: the sums that a rim has, and the rim that has given sums.
-use Rattle.std.proofs.Common.{
-  ◌≡◌, ◌≢◌, ℕ, zero, suc, ◌+◌, ◌<◌, ◌≤◌, Bool, true, false, ◌&&◌, ◌||◌, ℤ, pos, ◌+ℤ◌, ◌-ℤ◌, neg_ℤ, List, [], ◌∷◌, ◌++◌,
-  length, take, get_or, map, flat_map, All, Contains, ◌↔◌, cond, Ordering, FitsSigned, w32, refl, sym, ap, ◌∙◌, subst,
-  arith,
-}
+use Rattle.std.proofs.Common.{◌≡◌, ◌≢◌, ℕ, zero, suc, ◌+◌, ◌<◌, ◌≤◌, Bool, true, false, ◌&&◌, ◌||◌, ℤ, pos, ◌+ℤ◌, ◌-ℤ◌}
+use Rattle.std.proofs.Common.{neg_ℤ, List, [], ◌∷◌, ◌++◌, length, take, get_or, map, flat_map, All, Contains, ◌↔◌, cond}
+use Rattle.std.proofs.Common.{Ordering, FitsSigned, w32, refl, sym, ap, ◌∙◌, subst, arith}
 use Rattle.std.proofs.lemmas.Int.{ints, int_wrap_fits}
 use Rattle.std.proofs.lemmas.Cmp.{eq_by_cmp_equiv}
 use Rattle.std.proofs.lemmas.List.{append-nil, take_all, get_or_default}
@@ -24,13 +22,10 @@ use Rattle.geom_core.specs.declared.points.Pt.{Pt}
 use Rattle.geom_core.specs.declared.triangles.Tri.{Tri}
 use Rattle.geom_core.specs.EdgeSum.{same_point, edges_of, edge_count, edge_sum, is_rim_edge, OnRim}
 use Rattle.geom_core.specs.Order.{is_before, point_cmp}
-use Rattle.geom_core.proofs.EdgeSumLaws.{
-  edge_sum-none, edge_sum-append, edge_sum-first, edge_count-one, edge_sum-same, edge_sum-turned, is_rim_edge-turned,
-}
-use Rattle.geom_core.proofs.PointLaws.{
-  true≢false, point_cmp-total, derived_eq, derived_eq-is, same_point-is, same_point-from, before-from_is_before,
-  is_before-itself, not_both, placed,
-}
+use Rattle.geom_core.proofs.EdgeSumLaws.{edge_sum-none, edge_sum-append, edge_sum-first, edge_count-one, edge_sum-same}
+use Rattle.geom_core.proofs.EdgeSumLaws.{edge_sum-turned, is_rim_edge-turned}
+use Rattle.geom_core.proofs.PointLaws.{true≢false, point_cmp-total, derived_eq, derived_eq-is, same_point-is}
+use Rattle.geom_core.proofs.PointLaws.{same_point-from, before-from_is_before, is_before-itself, not_both, placed}
 use Rattle.geom_core.proofs.PointLaws.Placed.{Before, Same, After}
 use Rattle.geom_core.specs.Limits.{HasGridCorners, IsGridPoint, is_grid_point}
 use Rattle.geom_core.specs.Corners.{has_corner, IsCornerIn}
@@ -38,17 +33,13 @@ use Rattle.geom_core.proofs.CollapseCorners.{at_corner}
 use Rattle.half_mesh.specs.declared.edges.Edge.{Edge}
 use Rattle.half_mesh.specs.declared.terms.EdgeTerm.{EdgeTerm}
 use Rattle.half_mesh.specs.Order.{edge_cmp}
-use Rattle.half_mesh.specs.Rim.{
-  EdgeSums, edge_sums, IsAscending, IsRim, IsRimEdge, IsRimOf, sum_on, same_edge, sum_in, sum_in_all, HaveSmallSums,
-  AreRimsOf, all_of, ends_of,
-}
-use Rattle.half_mesh.specs.Terms.{
-  edge_of, term, total_at, term_of, terms_of, terms_in, terms_in_all, AddUpAlike, IsSumOf,
-}
-use Rattle.half_mesh.proofs.EdgeLaws.{
-  edge_cmp-total, edge_from_equal, derived_edge_eq, derived_edge_eq-is, same_edge-from, same_edge-itself,
-  same_edge-before, same_edge-after, rim_edge-from, rim_edge-some, zero_unless, edge_sum-fits,
-}
+use Rattle.half_mesh.specs.Rim.{EdgeSums, edge_sums, IsAscending, IsRim, IsRimEdge, IsRimOf, sum_on, same_edge, sum_in}
+use Rattle.half_mesh.specs.Rim.{sum_in_all, HaveSmallSums, AreRimsOf, all_of, ends_of}
+use Rattle.half_mesh.specs.Terms.{edge_of, term, total_at, term_of, terms_of, terms_in, terms_in_all, AddUpAlike}
+use Rattle.half_mesh.specs.Terms.{IsSumOf}
+use Rattle.half_mesh.proofs.EdgeLaws.{edge_cmp-total, edge_from_equal, derived_edge_eq, derived_edge_eq-is}
+use Rattle.half_mesh.proofs.EdgeLaws.{same_edge-from, same_edge-itself, same_edge-before, same_edge-after}
+use Rattle.half_mesh.proofs.EdgeLaws.{rim_edge-from, rim_edge-some, zero_unless, edge_sum-fits}
 use Rattle.half_mesh.proofs.TermLaws.{total_at-append, total_at-one}
 
 add_nothing : (a : ℤ) → a +ℤ pos 0 ≡ a
@@ -81,7 +72,7 @@ sum_in-absent e (f ∷ edges) [] none = refl
 sum_in-absent e (f ∷ edges) (sum ∷ sums) none =
     rw (All-head (λ f. same_edge f e ≡ false) f edges none)
     (nothing_added (sum_in e edges sums) ∙ sum_in-absent e edges sums
-        (All-tail (λ f. same_edge f e ≡ false) f edges none))
+    (All-tail (λ f. same_edge f e ≡ false) f edges none))
 
 pub sum_in-contains : (e : Edge) (edges : List Edge) (sums : List ℤ) → sum_in e edges sums ≢ pos 0 → Contains edges e
 unfolding sum_in
@@ -108,7 +99,7 @@ unfolding sum_in
 first_sum e edges sum sums ascending =
     rw (same_edge-itself e)
     (ap (λ z. sum +ℤ z) (sum_in-absent e edges sums
-        (λ k d in_bounds. same_edge-after (get_or edges k d) e (ascending_first e edges ascending k d in_bounds))) ∙
+    (λ k d in_bounds. same_edge-after (get_or edges k d) e (ascending_first e edges ascending k d in_bounds))) ∙
     add_nothing sum)
 
 later_sum : (e f : Edge) (edges : List Edge) (sum : ℤ) (sums : List ℤ) → edge_cmp f e ≡ Less →
@@ -125,7 +116,7 @@ sums-map (e ∷ edges) [] ascending same f all = absurd (omega arith)
 sums-map (e ∷ edges) (sum ∷ sums) ascending same f all =
     ap (λ z. z ∷ sums)
     (sym (first_sum e edges sum sums ascending) ∙
-        All-head (λ e2. sum_in e2 (e ∷ edges) (sum ∷ sums) ≡ f e2) e edges all) ∙
+    All-head (λ e2. sum_in e2 (e ∷ edges) (sum ∷ sums) ≡ f e2) e edges all) ∙
     ap (λ l. f e ∷ l) (sums-map edges sums (ascending_rest e edges ascending) (omega arith) f rest)
   where
     rest : All (λ g. sum_in g edges sums ≡ f g) edges
@@ -144,7 +135,7 @@ some_sums (e ∷ edges) (sum ∷ sums) ascending same some zero d in_bounds =
 some_sums (e ∷ edges) (sum ∷ sums) ascending same some (suc k) d in_bounds =
     let there : k < length edges = omega arith in
     λ none. some_sums edges sums (ascending_rest e edges ascending) (omega arith)
-        (All-tail (λ z. z ≢ pos 0) sum sums some) k d there
+    (All-tail (λ z. z ≢ pos 0) sum sums some) k d there
     (sym (later_sum (get_or edges k d) e edges sum sums (ascending_first e edges ascending k d there)) ∙ none)
 
 -- ---- two rims with the same sums are one
@@ -181,13 +172,13 @@ same_rim [] (f ∷ others) [] [] one other alike = absurd (let h = other.one_eac
 same_rim [] (f ∷ others) [] (y ∷ more) one other alike =
     absurd (All-head (λ z. z ≢ pos 0) y more other.some
     (sym (first_sum f others y more other.ascending) ∙ sym (alike f) ∙
-        sum_in-absent f [] [] (All-nil (λ g. same_edge g f ≡ false))))
+    sum_in-absent f [] [] (All-nil (λ g. same_edge g f ≡ false))))
 same_rim (e ∷ edges) others [] more one other alike = absurd (let h = one.one_each in omega arith)
 same_rim (e ∷ edges) [] (x ∷ sums) (y ∷ more) one other alike = absurd (let h = other.one_each in omega arith)
 same_rim (e ∷ edges) [] (x ∷ sums) [] one other alike =
     absurd (All-head (λ z. z ≢ pos 0) x sums one.some
     (sym (first_sum e edges x sums one.ascending) ∙ alike e ∙
-        sum_in-absent e [] [] (All-nil (λ g. same_edge g e ≡ false))))
+    sum_in-absent e [] [] (All-nil (λ g. same_edge g e ≡ false))))
 same_rim (e ∷ edges) (f ∷ others) (x ∷ sums) [] one other alike = absurd (let h = other.one_each in omega arith)
 same_rim (e ∷ edges) (f ∷ others) (x ∷ sums) (y ∷ more) one other alike =
     by (same_rim edges others sums more) (edge_cmp e f) refl
@@ -203,7 +194,7 @@ same_rim (e ∷ edges) (f ∷ others) (x ∷ sums) (y ∷ more) one other alike 
         (o : Ordering) → edge_cmp e f ≡ o → (e ∷ edges ≡ f ∷ others) × (x ∷ sums ≡ y ∷ more)
     by rest_same Less is =
         absurd (x_some (sym (first_sum e edges x sums one.ascending) ∙ alike e ∙
-            none_earlier e f others (y ∷ more) other.ascending is))
+        none_earlier e f others (y ∷ more) other.ascending is))
     by rest_same Greater is =
         absurd (y_some (sym (first_sum f others y more other.ascending) ∙ sym (alike f) ∙
         none_earlier f e edges (x ∷ sums) one.ascending (edge_cmp-total.antisymm f e ∙ ap ordering_reverse is)))
@@ -215,12 +206,18 @@ same_rim (e ∷ edges) (f ∷ others) (x ∷ sums) (y ∷ more) one other alike 
             let alike_e : (g : Edge) → sum_in g (e ∷ edges) (x ∷ sums) ≡ sum_in g (e ∷ others) (y ∷ more) =
             λ g. alike g ∙ ap (λ h. sum_in g (h ∷ others) (y ∷ more)) (sym here) in
             let same : x ≡ y =
-                sym (first_sum e edges x sums one.ascending) ∙ alike_e e ∙ first_sum e others y more ascends in
+            sym (first_sum e edges x sums one.ascending) ∙ alike_e e ∙ first_sum e others y more ascends in
             let rest = rest_same
-            (record { ascending = ascending_rest e edges one.ascending; one_each =
-                (let h = one.one_each in omega arith); some = All-tail (λ z. z ≢ pos 0) x sums one.some })
-            (record { ascending = ascending_rest e others ascends; one_each =
-                (let h = other.one_each in omega arith); some = All-tail (λ z. z ≢ pos 0) y more other.some })
+            (record {
+              ascending = ascending_rest e edges one.ascending;
+              one_each = (let h = one.one_each in omega arith);
+              some = All-tail (λ z. z ≢ pos 0) x sums one.some;
+            })
+            (record {
+              ascending = ascending_rest e others ascends;
+              one_each = (let h = other.one_each in omega arith);
+              some = All-tail (λ z. z ≢ pos 0) y more other.some;
+            })
             (rest_alike e edges others x sums more one.ascending ascends
             (λ g. alike_e g ∙ ap (λ z. sum_in g (e ∷ others) (z ∷ more)) (sym same))) in
             (ap (λ h. h ∷ edges) here ∙ ap (λ l. f ∷ l) rest.0, ap (λ z. z ∷ sums) same ∙ ap (λ l. y ∷ l) rest.1)
@@ -290,13 +287,13 @@ sum_of_map : (f : Edge → ℤ) (edges : List Edge) → IsAscending edges → (e
 sum_of_map f [] ascending e (k, in_bounds, here) = absurd (omega arith)
 sum_of_map f (g ∷ edges) ascending e (zero, in_bounds, here) =
     ap (λ h. sum_in h (g ∷ edges) (f g ∷ map f edges)) (sym here) ∙ first_sum g edges (f g) (map f edges) ascending ∙
-        ap f here
+    ap f here
 sum_of_map f (g ∷ edges) ascending e (suc k, in_bounds, here) =
     let there : k < length edges = omega arith in
     let before : edge_cmp g e ≡ Less =
-        ap (λ h. edge_cmp g h) (sym here) ∙ ascending_first g edges ascending k e there in
+    ap (λ h. edge_cmp g h) (sym here) ∙ ascending_first g edges ascending k e there in
     later_sum e g edges (f g) (map f edges) before ∙
-        sum_of_map f edges (ascending_rest g edges ascending) e (k, there, here)
+    sum_of_map f edges (ascending_rest g edges ascending) e (k, there, here)
 
 pub sums_from_rim : (tris : List Tri) (edges : List Edge) (sums : List ℤ) → IsRimOf tris edges sums →
     (e : Edge) → sum_in e edges sums ≡ sum_ahead tris e
@@ -321,7 +318,7 @@ sums_from_rim tris edges sums rim e = ap (sum_in e edges) rim.summed ∙ by (is_
         on false none =
             absent (λ there. true≢false (sym (wanted there).1 ∙ none)) ∙
             sym (zero_unless (edge_sum tris e.u e.v)
-                (λ some. true≢false (sym (rim_edge-from tris e.u e.v some) ∙ none)))
+            (λ some. true≢false (sym (rim_edge-from tris e.u e.v some) ∙ none)))
 
 -- two lists have the same rim where their sums agree
 pub same_rim-from : (tris others : List Tri) (edges : List Edge) (sums : List ℤ) (edges2 : List Edge) (sums2 : List ℤ) →
@@ -339,7 +336,7 @@ sums_agree tris others edges sums one other u v = elim (placed u v) [
   | Before h ↦ ahead u v h
   | Same h ↦
       ap (λ w. edge_sum tris u w) (sym h) ∙ edge_sum-same tris u ∙ sym (edge_sum-same others u) ∙
-          ap (λ w. edge_sum others u w) h
+      ap (λ w. edge_sum others u w) h
   | After h ↦ edge_sum-turned tris v u ∙ ap neg_ℤ (ahead v u h) ∙ sym (edge_sum-turned others v u)
 ]
   where
@@ -395,8 +392,13 @@ term_of-sum e u v before = elim (placed u v) [
       (total_at-one e (term (edge_of u v) (pos 1)) ∙ along (same_point u e.u && same_point v e.v))
   | Same h ↦ subst (λ w. Adds u w) h same
   | After h ↦
-      rw (not_both v u h, h, and-turned (same_point u e.u) (same_point v e.v), turned-false v u e.u e.v h before,
-          and-turned (same_point u e.v) (same_point v e.u))
+      rw (
+        not_both v u h,
+        h,
+        and-turned (same_point u e.u) (same_point v e.v),
+        turned-false v u e.u e.v h before,
+        and-turned (same_point u e.v) (same_point v e.u),
+      )
       (total_at-one e (term (edge_of v u) (neg_ℤ (pos 1))) ∙ back (same_point v e.u && same_point u e.v))
 ]
   where
@@ -425,7 +427,7 @@ term_of-none e u v upto = elim (placed u v) [
   | Same h ↦ subst (λ w. None u w) h same
   | After h ↦
       rw (not_both v u h, h) (total_at-one e (term (edge_of v u) (neg_ℤ (pos 1))) ∙
-          rw (unordered-false v u e.u e.v h upto) refl)
+      rw (unordered-false v u e.u e.v h upto) refl)
 ]
   where
     None : Pt → Pt → Type 0
@@ -446,8 +448,13 @@ terms_of-sum : (e : Edge) (t : Tri) → is_before e.u e.v ≡ true → total_at 
 unfolding terms_of edges_of edge_sum
 terms_of-sum e t before =
     three e (term_of (t.a, t.b)) (term_of (t.b, t.c)) (term_of (t.c, t.a)) ∙
-    rw (term_of-sum e t.a t.b before, term_of-sum e t.b t.c before, term_of-sum e t.c t.a before,
-        edge_count-one t e.u e.v, edge_count-one t e.v e.u)
+    rw (
+      term_of-sum e t.a t.b before,
+      term_of-sum e t.b t.c before,
+      term_of-sum e t.c t.a before,
+      edge_count-one t e.u e.v,
+      edge_count-one t e.v e.u,
+    )
     (added (cond (same_point t.a e.u && same_point t.b e.v) 1 0) (cond (same_point t.b e.u && same_point t.c e.v) 1 0)
     (cond (same_point t.c e.u && same_point t.a e.v) 1 0) (cond (same_point t.a e.v && same_point t.b e.u) 1 0)
     (cond (same_point t.b e.v && same_point t.c e.u) 1 0) (cond (same_point t.c e.v && same_point t.a e.u) 1 0))
@@ -501,7 +508,7 @@ pub rim_from_terms : (tris : List Tri) (terms : List EdgeTerm) (edges : List Edg
 rim_from_terms tris terms edges sums rim total alike few =
     rim_from_sums tris edges sums rim
     (λ e. total e ∙ alike e ∙ ap (int_wrap w32) (all_terms-sum e tris) ∙
-        int_wrap_fits w32 (sum_ahead tris e) (sum_ahead-fits tris e few))
+    int_wrap_fits w32 (sum_ahead tris e) (sum_ahead-fits tris e few))
 
 -- ---- joined rims
 
@@ -566,9 +573,11 @@ on_rim-from : (tris : List Tri) (edges : List Edge) (p : Pt) → All (IsRimEdge 
 on_rim-from tris [] p all (k, in_bounds, here) = absurd (omega arith)
 on_rim-from tris (f ∷ fs) p all (zero, in_bounds, here) =
     (f.v, ap (λ u. is_rim_edge tris u f.v) (sym here) ∙ (All-head (IsRimEdge tris) f fs all).1)
-on_rim-from tris (f ∷ fs) p all (suc zero, in_bounds, here) =
-    (f.u, ap (λ v. is_rim_edge tris v f.u) (sym here) ∙ is_rim_edge-turned tris f.u f.v ∙
-        (All-head (IsRimEdge tris) f fs all).1)
+on_rim-from tris (f ∷ fs) p all (suc zero, in_bounds, here) = (
+  f.u,
+  ap (λ v. is_rim_edge tris v f.u) (sym here) ∙ is_rim_edge-turned tris f.u f.v ∙
+      (All-head (IsRimEdge tris) f fs all).1,
+)
 on_rim-from tris (f ∷ fs) p all (suc (suc k), in_bounds, here) =
     on_rim-from tris fs p (All-tail (IsRimEdge tris) f fs all) (k, omega arith, here)
 
@@ -597,7 +606,7 @@ unfolding IsStrictlySortedBy
 pairs_from_strict c [] strict = λ i j d below in_bounds. absurd (omega arith)
 pairs_from_strict {X} c (x ∷ xs) strict =
     AllPairs-cons (λ (y z : X). c y z ≡ Less) x xs (all_from (λ (y : X). c x y ≡ Less) xs strict.0)
-        (pairs_from_strict c xs strict.1)
+    (pairs_from_strict c xs strict.1)
 
 ties : (p q : Pt) → derived_eq p q ≡ is_eq (point_cmp p q)
 ties p q = derived_eq-is p q ∙ same_point-is p q
@@ -735,8 +744,16 @@ no_edge t p q none = by (same_point t.a p) (same_point t.b p) (same_point t.c p)
     by false true z a b c h = absurd (true≢false h)
     by false false true a b c h = absurd (true≢false h)
     by false false false a b c h =
-        rw (edge_count-one t p q, edge_count-one t q p, a, b, c, never (same_point t.a q), never (same_point t.b q),
-            never (same_point t.c q)) refl
+        rw (
+          edge_count-one t p q,
+          edge_count-one t q p,
+          a,
+          b,
+          c,
+          never (same_point t.a q),
+          never (same_point t.b q),
+          never (same_point t.c q),
+        ) refl
 
 pub corner_of : (tris : List Tri) (p q : Pt) → edge_sum tris p q ≢ pos 0 → IsCornerIn tris p
 corner_of [] p q some = absurd (some (edge_sum-none p q))

@@ -1,9 +1,8 @@
 -- Looking up edges and points in a table.
-use Rattle.std.proofs.Common.{
-  ◌≡◌, ◌≢◌, ℕ, zero, suc, ◌+◌, ◌-◌, ◌<◌, ◌≤◌, ◌^◌, Bool, true, false, ℤ, pos, ◌-ℤ◌, neg_ℤ, List, [], ◌∷◌, length, take,
-  drop, get_or, map, All, Contains, Option, Some, None, Result, Ok, Err, cond, ◌↔◌, inl, inr, refl, sym, ap, ◌∙◌, subst,
-  arith, w32, to_z, of_z, unsigned_abs,
-}
+use Rattle.std.proofs.Common.{◌≡◌, ◌≢◌, ℕ, zero, suc, ◌+◌, ◌-◌, ◌<◌, ◌≤◌, ◌^◌, Bool, true, false, ℤ, pos, ◌-ℤ◌, neg_ℤ}
+use Rattle.std.proofs.Common.{List, [], ◌∷◌, length, take, drop, get_or, map, All, Contains, Option, Some, None, Result}
+use Rattle.std.proofs.Common.{Ok, Err, cond, ◌↔◌, inl, inr, refl, sym, ap, ◌∙◌, subst, arith, w32, to_z, of_z}
+use Rattle.std.proofs.Common.{unsigned_abs}
 use Rattle.std.proofs.lemmas.Int.{ints}
 use Rattle.std.proofs.lemmas.List.{take-map, drop-map}
 use Rattle.std.proofs.lemmas.List.Elements.{All-head, All-tail}
@@ -32,24 +31,22 @@ use Rattle.half_mesh.specs.Order.{edge_cmp}
 use Rattle.half_mesh.specs.Rim.{IsRimEdge, IsAscending, IsRimOf, sum_on, ends_of}
 use Rattle.half_mesh.specs.Terms.{edge_of}
 use Rattle.half_mesh.proofs.CornerLaws.{triangles_around-is}
-use Rattle.geom_core.proofs.PointLaws.{
-  true≢false, point_cmp-total, same_point-is, same_point-from, before-from_is_before, is_before-itself,
-  same_point-before, same_point-after, placed,
-}
+use Rattle.geom_core.proofs.PointLaws.{true≢false, point_cmp-total, same_point-is, same_point-from}
+use Rattle.geom_core.proofs.PointLaws.{before-from_is_before, is_before-itself, same_point-before, same_point-after}
+use Rattle.geom_core.proofs.PointLaws.{placed}
 use Rattle.geom_core.proofs.PointLaws.Placed.{Before, Same, After}
-use Rattle.half_mesh.proofs.EdgeLaws.{
-  edge_cmp-total, edge_from_equal, point_from_equal, zero_unless, rim_edge-some, rim_edge-from, edge_count-bound,
-}
+use Rattle.half_mesh.proofs.EdgeLaws.{edge_cmp-total, edge_from_equal, point_from_equal, zero_unless, rim_edge-some}
+use Rattle.half_mesh.proofs.EdgeLaws.{rim_edge-from, edge_count-bound}
 
 pub sorted_points : (points : List Pt) → AllPairs (λ p q. point_cmp p q ≡ Less) points → IsSorted point_cmp points
 sorted_points points ascending k d low high =
     ap is_lt (point_cmp-total.antisymm (get_or points (k + 1) d) (get_or points k d) ∙
-        ap ordering_reverse (ascending k (k + 1) d (omega arith) high))
+    ap ordering_reverse (ascending k (k + 1) d (omega arith) high))
 
 pub sorted_from_ascending : (edges : List Edge) → IsAscending edges → IsSorted edge_cmp edges
 sorted_from_ascending edges ascending k d low high =
     ap is_lt (edge_cmp-total.antisymm (get_or edges (k + 1) d) (get_or edges k d) ∙
-        ap ordering_reverse (ascending k (k + 1) d (omega arith) high))
+    ap ordering_reverse (ascending k (k + 1) d (omega arith) high))
 
 -- a search that answers none finds none
 pub searched_none : {X : Type 0} (ord : X → Ordering) (xs : List X) (r : Result ℕ ℕ) → IsBinarySearchResult ord xs r →
@@ -72,9 +69,11 @@ pub place_holds : (points : List Pt) (p : Pt) (o : Option ℕ) → IfSome o (λ 
     (is_some o ≡ true) ↔ Contains points p
 place_holds points p (Some i) within found absent =
     (λ h. (i, within, point_from_equal (get_or points i p) p (found p)), λ h. refl)
-place_holds points p None within found absent =
-    (λ h. absurd (true≢false (sym h)), λ (k, in_bounds, here). absurd
-        (absent k p in_bounds (ap (λ q. point_cmp q p) here ∙ tied_itself point_cmp-total p)))
+place_holds points p None within found absent = (
+  λ h. absurd (true≢false (sym h)),
+  λ (k, in_bounds, here). absurd
+      (absent k p in_bounds (ap (λ q. point_cmp q p) here ∙ tied_itself point_cmp-total p)),
+)
 
 -- ---- the sums
 
@@ -101,9 +100,12 @@ sum_found tris edges sums u v place z d rim few in_bounds found read =
     let less : point_cmp u v ≡ Less = ap (λ (f : Edge). point_cmp f.u f.v) (sym here) ∙ wanted.0 in
     let before : is_before u v ≡ true = ap is_lt less in
     let sum : z ≡ edge_sum tris u v =
-        read ∙ ap (λ l. get_or l place d) rim.summed ∙ at edges place in_bounds ∙ ap (sum_on tris) here in
-    (sum, before, subst (λ k. unsigned_abs k ≤ MAX_SUMMED_TRIANGLES) (sym sum)
-        (edge_sum-bound tris u v (same_point-before u v before) (same_point-after v u before) few))
+    read ∙ ap (λ l. get_or l place d) rim.summed ∙ at edges place in_bounds ∙ ap (sum_on tris) here in (
+      sum,
+      before,
+      subst (λ k. unsigned_abs k ≤ MAX_SUMMED_TRIANGLES) (sym sum)
+          (edge_sum-bound tris u v (same_point-before u v before) (same_point-after v u before) few),
+    )
   where
     at : (edges : List Edge) (place : ℕ) → place < length edges →
         get_or (map (sum_on tris) edges) place d ≡ sum_on tris (get_or edges place (edge_of u v))
@@ -133,7 +135,7 @@ sum_absent tris edges sums u v rim absent = by (is_before u v) refl
     none before true some =
         let at = rim.complete (edge_of u v) (before-from_is_before u v before, some) in
         absurd (absent at.0 (edge_of u v) at.1 (ap (λ e. edge_cmp e (edge_of u v)) at.2 ∙
-            tied_itself edge_cmp-total (edge_of u v)))
+        tied_itself edge_cmp-total (edge_of u v)))
     none before false cancels =
         sym (zero_unless (edge_sum tris u v) (λ some. true≢false (sym (rim_edge-from tris u v some) ∙ cancels)))
 

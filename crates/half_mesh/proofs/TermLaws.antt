@@ -1,17 +1,13 @@
 -- Terms of edge sums: what lists of them add up to, and adding up a sorted list.
-use Rattle.std.proofs.Common.{
-  ◌≡◌, ◌≢◌, ℕ, zero, suc, ◌+◌, ◌-◌, ◌%◌, ◌^◌, ◌<◌, ◌≤◌, inl, inr, Bool, true, false, not, ◌&&◌, ℤ, pos, negsuc, ◌+ℤ◌,
-  ◌-ℤ◌, neg_ℤ, List, [], ◌∷◌, ◌++◌, length, take, get_or, map, flat_map, All, cond, Ordering, FitsSigned, Fits, w32,
-  to_z, of_z, refl, sym, ap, ◌∙◌, subst, arith,
-}
-use Rattle.std.proofs.lemmas.Int.{
-  ints, SFits-int_wrap, int_wrap_fits, int_wrap-add_left, int_wrap-add_right, wrapping_add-bits, to_z-of_z,
-}
+use Rattle.std.proofs.Common.{◌≡◌, ◌≢◌, ℕ, zero, suc, ◌+◌, ◌-◌, ◌%◌, ◌^◌, ◌<◌, ◌≤◌, inl, inr, Bool, true, false, not}
+use Rattle.std.proofs.Common.{◌&&◌, ℤ, pos, negsuc, ◌+ℤ◌, ◌-ℤ◌, neg_ℤ, List, [], ◌∷◌, ◌++◌, length, take, get_or, map}
+use Rattle.std.proofs.Common.{flat_map, All, cond, Ordering, FitsSigned, Fits, w32, to_z, of_z, refl, sym, ap, ◌∙◌}
+use Rattle.std.proofs.Common.{subst, arith}
+use Rattle.std.proofs.lemmas.Int.{ints, SFits-int_wrap, int_wrap_fits, int_wrap-add_left, int_wrap-add_right}
+use Rattle.std.proofs.lemmas.Int.{wrapping_add-bits, to_z-of_z}
 use Rattle.std.proofs.Math.Facts.{Fits-of_z}
-use Rattle.std.proofs.lemmas.List.{
-  append-nil, append_assoc, map-append, take_more, take_all, get_or_default, length-append, get_or_append_left,
-  get_or-append_right,
-}
+use Rattle.std.proofs.lemmas.List.{append-nil, append_assoc, map-append, take_more, take_all, get_or_default}
+use Rattle.std.proofs.lemmas.List.{length-append, get_or_append_left, get_or-append_right}
 use Rattle.std.proofs.lemmas.List.Elements.{All-nil, All-head, All-tail, All-append}
 use Rattle.std.proofs.lemmas.List.Sums.{sum_by-cons}
 use Rattle.std.proofs.lemmas.List.Sorted.{sum_by-IsPermutation}
@@ -30,13 +26,10 @@ use Rattle.half_mesh.specs.declared.edges.Edge.{Edge}
 use Rattle.half_mesh.specs.declared.terms.EdgeTerm.{EdgeTerm}
 use Rattle.half_mesh.specs.Order.{edge_cmp}
 use Rattle.half_mesh.specs.Rim.{EdgeSums, IsAscending, same_edge, sum_in, sum_in_all}
-use Rattle.half_mesh.specs.Terms.{
-  edge_of, term, term_of, terms_of, total_at, AreSmall, unless_cancelled, terms_in, terms_in_all, IsByEdge, AddUpAlike,
-  IsSumOf,
-}
-use Rattle.half_mesh.proofs.EdgeLaws.{
-  edge_cmp-total, same_edge-is, same_edge-from, same_edge-itself, same_edge-before, derived_edge_eq, derived_edge_eq-is,
-}
+use Rattle.half_mesh.specs.Terms.{edge_of, term, term_of, terms_of, total_at, AreSmall, unless_cancelled, terms_in}
+use Rattle.half_mesh.specs.Terms.{terms_in_all, IsByEdge, AddUpAlike, IsSumOf}
+use Rattle.half_mesh.proofs.EdgeLaws.{edge_cmp-total, same_edge-is, same_edge-from, same_edge-itself, same_edge-before}
+use Rattle.half_mesh.proofs.EdgeLaws.{derived_edge_eq, derived_edge_eq-is}
 use Rattle.geom_core.proofs.PointLaws.{true≢false}
 
 -- ---- what lists add up to
@@ -72,7 +65,7 @@ total_at-absent e [] none = refl
 total_at-absent e (x ∷ xs) none =
     rw (All-head (λ (t : EdgeTerm). same_edge t.edge e ≡ false) x xs none)
     (nothing_added (total_at e xs) ∙ total_at-absent e xs
-        (All-tail (λ (t : EdgeTerm). same_edge t.edge e ≡ false) x xs none))
+    (All-tail (λ (t : EdgeTerm). same_edge t.edge e ≡ false) x xs none))
 
 -- ---- the order of the terms doesn't matter
 
@@ -104,8 +97,12 @@ total_at-parts e (x ∷ xs) =
 
 pub total_at-IsPermutation : (e : Edge) (xs ys : List EdgeTerm) → IsPermutation xs ys → total_at e ys ≡ total_at e xs
 total_at-IsPermutation e xs ys moved =
-    rw (total_at-parts e xs, total_at-parts e ys, sum_by-IsPermutation (ups e) xs ys moved,
-        sum_by-IsPermutation (downs e) xs ys moved) refl
+    rw (
+      total_at-parts e xs,
+      total_at-parts e ys,
+      sum_by-IsPermutation (ups e) xs ys moved,
+      sum_by-IsPermutation (downs e) xs ys moved,
+    ) refl
 
 pub IsSumOf-IsPermutation : (xs ys sums : List EdgeTerm) → IsPermutation xs ys → IsSumOf ys sums → IsSumOf xs sums
 IsSumOf-IsPermutation xs ys sums moved added = record {
@@ -135,7 +132,7 @@ pub AllPairs-last : {X : Type 0} (R : X → X → Type 0) (xs : List X) (y : X) 
 AllPairs-last R xs y all i d in_bounds =
     subst (λ x. R x y) (get_or_append_left xs (y ∷ []) d i in_bounds)
     (subst (λ z. R (get_or (xs ++ y ∷ []) i d) z)
-        (get_or-append_right xs (y ∷ []) (length xs) (length xs) d refl (omega arith) ∙ last)
+    (get_or-append_right xs (y ∷ []) (length xs) (length xs) d refl (omega arith) ∙ last)
     (all i (length xs) d in_bounds (omega (arith, length-append xs (y ∷ [])))))
   where
     last : get_or (y ∷ []) (length xs - length xs) d ≡ y
@@ -151,8 +148,11 @@ AllPairs-push {X} R xs y all upto i j d below in_bounds =
           (all i j d below j_in)
       | inr j_past ↦
           let none : j - length xs ≡ 0 = omega arith in
-          rw (get_or_append_left xs (y ∷ []) d i i_in, get_or-append_right xs (y ∷ []) (length xs) j d refl j_past,
-              none) (upto i d i_in)
+          rw (
+            get_or_append_left xs (y ∷ []) d i i_in,
+            get_or-append_right xs (y ∷ []) (length xs) j d refl j_past,
+            none,
+          ) (upto i d i_in)
     ]
 
 abbrev edges_in : List EdgeTerm → List Edge
@@ -190,7 +190,7 @@ small_push : (sums : List EdgeTerm) (last t : EdgeTerm) → AreSmall (sums ++ la
     AreSmall (sums ++ t ∷ [])
 small_push sums last t small fits =
     All-append (λ (t : EdgeTerm). FitsSigned w32 t.sum) sums (t ∷ [])
-        (All-front (λ (t : EdgeTerm). FitsSigned w32 t.sum) sums (last ∷ []) small) (small_one t fits)
+    (All-front (λ (t : EdgeTerm). FitsSigned w32 t.sum) sums (last ∷ []) small) (small_one t fits)
 
 pub adding_first : (first : EdgeTerm) → FitsSigned w32 first.sum → IsAdding (first ∷ []) [] first
 adding_first first fits = record {
@@ -218,7 +218,7 @@ none_before : (taken sums : List EdgeTerm) (last : EdgeTerm) → IsAdding taken 
 none_before taken sums last so_far =
     total_at-absent last.edge sums
     (λ k d in_bounds. same_edge-before (get_or sums k d).edge last.edge
-        (before_last taken sums last so_far k d in_bounds))
+    (before_last taken sums last so_far k d in_bounds))
 
 pub adding_same : (taken sums : List EdgeTerm) (last next : EdgeTerm) (sum : ℤ) → IsAdding taken sums last →
     same_edge next.edge last.edge ≡ true → sum ≡ int_wrap w32 (last.sum +ℤ next.sum) →
@@ -242,15 +242,15 @@ adding_same taken sums last next sum so_far same is = record {
         rw apart at (sym (total_at-push e sums last) ∙ so_far.total e) in
         total_at-push e sums (term last.edge sum) ∙
         rw apart
-            (old ∙ ap (int_wrap w32) (sym (total_at-push e taken next ∙
-            rw (ap (λ f. same_edge f e) here ∙ apart) (add_nothing (total_at e taken)))))
+        (old ∙ ap (int_wrap w32) (sym (total_at-push e taken next ∙
+        rw (ap (λ f. same_edge f e) here ∙ apart) (add_nothing (total_at e taken)))))
     by e true at =
         let none : total_at e sums ≡ pos 0 =
-            ap (λ f. total_at f sums) (sym (same_edge-from last.edge e at)) ∙ none_before taken sums last so_far in
+        ap (λ f. total_at f sums) (sym (same_edge-from last.edge e at)) ∙ none_before taken sums last so_far in
         let old : total_at e sums +ℤ last.sum ≡ int_wrap w32 (total_at e taken) =
         rw at at (sym (total_at-push e sums last) ∙ so_far.total e) in
         let last_is : last.sum ≡ int_wrap w32 (total_at e taken) =
-            sym (ap (λ z. z +ℤ last.sum) none ∙ nothing_added last.sum) ∙ old in
+        sym (ap (λ z. z +ℤ last.sum) none ∙ nothing_added last.sum) ∙ old in
         total_at-push e sums (term last.edge sum) ∙
         rw at (ap (λ z. z +ℤ sum) none ∙ nothing_added sum ∙ is ∙
         ap (λ z. int_wrap w32 (z +ℤ next.sum)) last_is ∙ int_wrap-add_left w32 (total_at e taken) next.sum ∙
@@ -267,7 +267,7 @@ total_at-unless_cancelled e sums last = by (int_eq last.sum (pos 0)) refl
     by true none =
         let nothing : last.sum ≡ pos 0 = zero_from last.sum none in
         rw none (ap (total_at e) (append-nil sums) ∙
-            sym (total_at-push e sums last ∙ rw nothing (whichever (same_edge last.edge e))))
+        sym (total_at-push e sums last ∙ rw nothing (whichever (same_edge last.edge e))))
       where
         zero_from : (k : ℤ) → int_eq k (pos 0) ≡ true → k ≡ pos 0
         zero_from k h = grind (arith, ints)
@@ -358,7 +358,7 @@ adding_next taken sums last next so_far later fits = record {
     none_at_next = total_at-absent next.edge (sums ++ unless_cancelled last)
         (λ k d in_bounds. same_edge-before (get_or (sums ++ unless_cancelled last) k d).edge next.edge
         (All-map (λ e. edge_cmp e next.edge ≡ Less) (λ (t : EdgeTerm). t.edge)
-            (sums ++ unless_cancelled last) all_before k d in_bounds))
+        (sums ++ unless_cancelled last) all_before k d in_bounds))
 
     by : (e : Edge) (b : Bool) → same_edge next.edge e ≡ b →
         total_at e ((sums ++ unless_cancelled last) ++ next ∷ []) ≡ int_wrap w32 (total_at e (taken ++ next ∷ []))
@@ -420,7 +420,7 @@ alike-piece {T} terms_at tris rest piece later terms sums so_far whole added e =
         alike-append sums (flat_map terms_at piece) (flat_map terms_at later) (flat_map terms_at later)
         (sums-alike (flat_map terms_at piece) sums added) (λ g. refl) f ∙
         ap (λ l. int_wrap w32 (total_at f l)) (sym
-            (ap (flat_map terms_at) whole ∙ flat_map-append terms_at piece later))
+        (ap (flat_map terms_at) whole ∙ flat_map-append terms_at piece later))
 
 -- ---- the loop that adds up
 
@@ -430,7 +430,7 @@ pub adding_start : (terms : List EdgeTerm) (first : EdgeTerm) (later sums : List
     ((d : EdgeTerm) → first.edge ≡ (get_or terms 0 d).edge)
 adding_start terms first later sums whole small none =
     let fits : FitsSigned w32 first.sum =
-        All-head (λ (t : EdgeTerm). FitsSigned w32 t.sum) first later (subst AreSmall whole small) in
+    All-head (λ (t : EdgeTerm). FitsSigned w32 t.sum) first later (subst AreSmall whole small) in
     let cast : to_z w32 (of_z w32 first.sum) ≡ first.sum = to_z-of_z w32 first.sum fits in
     rw (whole, none, cast) (adding_first first fits, λ d. refl)
 
@@ -458,7 +458,7 @@ edge_next : (terms : List EdgeTerm) (first : EdgeTerm) (later : List EdgeTerm) (
     (get_or terms (i + 1) d2).edge ≡ (get_or later i d).edge
 edge_next terms first later i d d2 whole in_bounds =
     ap (λ (t : EdgeTerm). t.edge) (get_or_default terms (i + 1) d2 d (in_terms terms first later i whole in_bounds) ∙
-        next_in terms first later i d whole)
+    next_in terms first later i d whole)
 
 pub adding_equal : (terms : List EdgeTerm) (first : EdgeTerm) (later sums sums2 : List EdgeTerm) (edge edge2 : Edge)
     (bits : ℕ) (sum2 : ℤ) (i : ℕ) (d : EdgeTerm) →
@@ -477,7 +477,7 @@ adding_equal terms first later sums sums2 edge edge2 bits sum2 i d whole small i
     rw (kept, same, one_more terms first later i d whole in_bounds) (
       adding_same (take (i + 1) terms) sums (term edge (to_z w32 bits)) next sum2 so_far.0 is_edge
           (total ∙ wrapping_add-bits w32 bits (of_z w32 next.sum) (omega (arith, known))
-              (omega (arith, Fits-of_z fits)) ∙
+          (omega (arith, Fits-of_z fits)) ∙
           ap (λ z. int_wrap w32 (to_z w32 bits +ℤ z)) (to_z-of_z w32 next.sum fits)),
       λ e. sym (same_edge-from next.edge edge is_edge) ∙ sym (edge_next terms first later i d e whole in_bounds),
     )
@@ -511,7 +511,7 @@ pub adding_done : (terms : List EdgeTerm) (first : EdgeTerm) (later sums sums2 :
     sums2 ≡ sums ++ unless_cancelled (term edge sum) → IsSumOf terms sums2
 adding_done terms first later sums sums2 edge sum i whole past so_far pushed =
     rw pushed (subst (λ l. IsSumOf l (sums ++ unless_cancelled (term edge sum)))
-        (take_all (i + 1) terms (omega (arith, ap length whole)))
+    (take_all (i + 1) terms (omega (arith, ap length whole)))
     (adding_end (take (i + 1) terms) sums (term edge sum) so_far))
 
 -- ---- the terms of triangles are small
@@ -522,10 +522,10 @@ terms_small [] = All-nil (λ (t : EdgeTerm). FitsSigned w32 t.sum)
 terms_small (t ∷ tris) =
     All-append (λ (t : EdgeTerm). FitsSigned w32 t.sum) (terms_of t) (flat_map terms_of tris)
     (All-append (λ (t : EdgeTerm). FitsSigned w32 t.sum) (term_of (t.a, t.b))
-        (term_of (t.b, t.c) ++ (term_of (t.c, t.a) ++ [])) (one t.a t.b)
+    (term_of (t.b, t.c) ++ (term_of (t.c, t.a) ++ [])) (one t.a t.b)
     (All-append (λ (t : EdgeTerm). FitsSigned w32 t.sum) (term_of (t.b, t.c)) (term_of (t.c, t.a) ++ []) (one t.b t.c)
     (All-append (λ (t : EdgeTerm). FitsSigned w32 t.sum) (term_of (t.c, t.a)) [] (one t.c t.a)
-        (All-nil (λ (t : EdgeTerm). FitsSigned w32 t.sum)))))
+    (All-nil (λ (t : EdgeTerm). FitsSigned w32 t.sum)))))
     (terms_small tris)
   where
     up : FitsSigned w32 (pos 1)
@@ -574,7 +574,7 @@ terms_in-small (e ∷ edges) [] small = All-nil (λ (t : EdgeTerm). FitsSigned w
 terms_in-small (e ∷ edges) (sum ∷ sums) small =
     All-append (λ (t : EdgeTerm). FitsSigned w32 t.sum) (term e sum ∷ []) (terms_in edges sums)
     (small_one (term e sum) (All-head (FitsSigned w32) sum sums small))
-        (terms_in-small edges sums (All-tail (FitsSigned w32) sum sums small))
+    (terms_in-small edges sums (All-tail (FitsSigned w32) sum sums small))
 
 -- one more part
 pub joining : (parts : List EdgeSums) (i : ℕ) (d : EdgeSums) (terms grown : List EdgeTerm) → i < length parts →
@@ -587,7 +587,7 @@ joining parts i d terms grown in_bounds so_far pushed small = (
       sym (ap terms_in_all (take_more parts i d in_bounds) ∙
       flat_map-append (λ (part : EdgeSums). terms_in part.edges part.sums) (take i parts) (get_or parts i d ∷ []) ∙
       ap (λ l. terms_in_all (take i parts) ++ l)
-          (append-nil (terms_in (get_or parts i d).edges (get_or parts i d).sums))),
+      (append-nil (terms_in (get_or parts i d).edges (get_or parts i d).sums))),
   rw pushed (All-append (λ (t : EdgeTerm). FitsSigned w32 t.sum) terms
       (terms_in (get_or parts i d).edges (get_or parts i d).sums) so_far.1 small),
 )

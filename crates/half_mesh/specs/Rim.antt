@@ -1,8 +1,6 @@
 -- The rim of a list of triangles: the edges whose sum isn't 0, ascending, each with its sum.
-use Rattle.std.specs.Prelude.{
-  ◌≡◌, ◌≢◌, Bool, ◌&&◌, ⊤, ℤ, pos, ◌+ℤ◌, List, [], ◌∷◌, length, map, flat_map, All, AllPairs, Contains, IsTrue,
-  FitsSigned, if◌then◌else◌,
-}
+use Rattle.std.specs.Prelude.{◌≡◌, ◌≢◌, Bool, ◌&&◌, ⊤, ℤ, pos, ◌+ℤ◌, List, [], ◌∷◌, length, map, flat_map, All}
+use Rattle.std.specs.Prelude.{AllPairs, Contains, IsTrue, FitsSigned, if◌then◌else◌}
 use Rattle.std.specs.Int.{w32}
 use Rattle.std.specs.declared.cmp.Ordering.TheVariants.{Less}
 use Rattle.geom_core.specs.declared.triangles.Tri.{Tri}

@@ -1,7 +1,6 @@
 -- The terms of edge sums: edges with numbers of uses, and what these add up to.
-use Rattle.std.specs.Prelude.{
-  ◌≡◌, ◌≢◌, ℤ, pos, neg_ℤ, ◌+ℤ◌, List, [], ◌∷◌, map, flat_map, All, FitsSigned, if◌then◌else◌,
-}
+use Rattle.std.specs.Prelude.{◌≡◌, ◌≢◌, ℤ, pos, neg_ℤ, ◌+ℤ◌, List, [], ◌∷◌, map, flat_map, All, FitsSigned}
+use Rattle.std.specs.Prelude.{if◌then◌else◌}
 use Rattle.std.specs.List.Sorted.{IsSortedByKey}
 use Rattle.std.specs.Ordering.{int_eq}
 use Rattle.std.specs.Int.{w32, int_wrap}

@@ -1,8 +1,7 @@
 -- A journal that a text spells has a layout in bounds.
-use Rattle.std.proofs.Common.{
-  ◌≡◌, ◌&&◌, ℕ, ◌+◌, ◌-◌, ◌<◌, ◌≤◌, ◌^◌, List, [], ◌∷◌, ◌++◌, Bool, true, false, Option, None, Some, Ok, codes, length,
-  get_or, replicate, arith, inl, inr, refl, subst, sym, ap, ◌∙◌, length-append,
-}
+use Rattle.std.proofs.Common.{◌≡◌, ◌&&◌, ℕ, ◌+◌, ◌-◌, ◌<◌, ◌≤◌, ◌^◌, List, [], ◌∷◌, ◌++◌, Bool, true, false, Option}
+use Rattle.std.proofs.Common.{None, Some, Ok, codes, length, get_or, replicate, arith, inl, inr, refl, subst, sym, ap}
+use Rattle.std.proofs.Common.{◌∙◌, length-append}
 use Rattle.std.specs.Prelude.{if◌then◌else◌, nat_le, slice_index_or, EachIndex}
 use Rattle.std.specs.List.{All}
 use Rattle.std.specs.Option.{option_map, option_map_or}
@@ -17,10 +16,9 @@ use Rattle.journal.proofs.FittingUppers.{all_below-from_All, at_least, both}
 use Rattle.journal.proofs.KeptByLines.{LinesKeep, journal_keeps}
 use Rattle.geom_core.specs.declared.limits.TheConstants.{MAX_PAGES}
 use Rattle.journal.specs.Layout.{CountsFit, InBounds, UppersFit, ascends}
-use Rattle.journal.specs.Grammar.{
-  ◌>>=◌, after_word, below, with_all_uppers, split_first, is_empty, is_numeral, journal_of, layout_of, number_of,
-  numbers_of, some_numbers_of, triple, up_to, with_entry, with_line, with_upper, entry_of,
-}
+use Rattle.journal.specs.Grammar.{◌>>=◌, after_word, below, with_all_uppers, split_first, is_empty, is_numeral}
+use Rattle.journal.specs.Grammar.{journal_of, layout_of, number_of, numbers_of, some_numbers_of, triple, up_to}
+use Rattle.journal.specs.Grammar.{with_entry, with_line, with_upper, entry_of}
 use Rattle.journal.specs.declared.journals.Journal.{Journal}
 use Rattle.journal.specs.declared.layouts.Layout.{Layout}
 
@@ -63,7 +61,7 @@ numbers_lt limit (field ∷ rest) numbers e =
     let first = bind_some (number_of limit field) _ numbers e in
     let more = bind_some (numbers_of limit rest) _ numbers first.2 in
     numbers_step limit first.0 more.0 numbers (number_lt limit field first.0 first.1)
-        (numbers_lt limit rest more.0 more.1) more.2
+    (numbers_lt limit rest more.0 more.1) more.2
 
 -- numbers that were read are below their limit
 pub some_numbers_lt : (limit : ℕ) (fields : List (List ℕ)) (numbers : List ℕ) →
@@ -112,7 +110,7 @@ layout_bounds fields layout e =
     let t = tested (nat_le 1 roots.0) (nat_le roots.0 slots.0) (started pages.0 roots.0 slots.0) layout slots.2 in
     subst HasBuilderBounds t.2
     (started_bounds pages.0 roots.0 slots.0 (number_lt _ _ _ pages.1) (number_lt _ _ _ roots.1)
-        (number_lt _ _ _ slots.1) (at_least _ _ t.0) (at_least _ _ t.1))
+    (number_lt _ _ _ slots.1) (at_least _ _ t.0) (at_least _ _ t.1))
 
 -- the list of a page that has none is one of uppers
 none_are : (page : ℕ) → UppersFit page []
@@ -130,8 +128,12 @@ filled uppers k n each =
 
 pub length-up_to : (uppers : List (List ℕ)) (page : ℕ) → length uppers ≤ page → length (up_to uppers page) ≡ page
 length-up_to uppers page le =
-    omega (arith, le, length-append uppers (replicate (page - length uppers) nothing),
-        length-replicate (page - length uppers) nothing)
+    omega (
+      arith,
+      le,
+      length-append uppers (replicate (page - length uppers) nothing),
+      length-replicate (page - length uppers) nothing,
+    )
 
 -- the lists up to that of a page, and its list
 listed_below : (uppers : List (List ℕ)) (page : ℕ) (listed : List ℕ) → length uppers ≤ page →
@@ -142,13 +144,13 @@ listed_below uppers page listed le each are k lt =
     elim (cases_lt k page) [
       | inl before ↦
           subst (UppersFit k) (sym (get_or-append (up_to uppers page) (listed ∷ []) nothing k
-              (omega (arith, long, before))))
+          (omega (arith, long, before))))
           (filled uppers k (page - length uppers) each)
       | inr past ↦
           let at : k ≡ page = omega (arith, long, past, lt, length-append (up_to uppers page) (listed ∷ [])) in
           let is : get_or (up_to uppers page ++ listed ∷ []) k nothing ≡ listed =
           ap (λ n. get_or (up_to uppers page ++ listed ∷ []) n nothing) (at ∙ sym long) ∙
-              get_or-append_seam (up_to uppers page) listed [] nothing
+          get_or-append_seam (up_to uppers page) listed [] nothing
           in
           subst (UppersFit k) (sym is) (subst (λ n. UppersFit n listed) (sym at) are)
     ]
@@ -186,8 +188,8 @@ upper_bounds journal next fields h e =
     let listed = bind_some (some_numbers_of page.0 a.0.1) _ next page.2 in
     let given_page : Journal = record journal { layout = given journal.layout page.0 listed.0 } in
     let t =
-        tested (is_empty journal.entries && nat_le (length journal.layout.uppers) page.0)
-        (ascends listed.0) given_page next listed.2 in
+    tested (is_empty journal.entries && nat_le (length journal.layout.uppers) page.0)
+    (ascends listed.0) given_page next listed.2 in
     let u = both (is_empty journal.entries) (nat_le (length journal.layout.uppers) page.0) t.0 in
     subst (λ next. HasBuilderBounds next.layout) t.2
     (given_bounds journal.layout page.0 listed.0 h (at_least _ _ u.1) (number_lt _ _ _ page.1)

@@ -1,8 +1,6 @@
 -- What stands before and after the first space of a line, and the first LF of a text.
-use Rattle.std.proofs.Common.{
-  ◌≡◌, ◌==◌, ℕ, List, [], ◌∷◌, ◌++◌, Bool, not, true, false, Option, None, Some, Bor, MatchOption, ◌+◌, length, arith,
-  refl, subst, ap, ◌∙◌,
-}
+use Rattle.std.proofs.Common.{◌≡◌, ◌==◌, ℕ, List, [], ◌∷◌, ◌++◌, Bool, not, true, false, Option, None, Some, Bor}
+use Rattle.std.proofs.Common.{MatchOption, ◌+◌, length, arith, refl, subst, ap, ◌∙◌}
 use Rattle.std.specs.List.{All, onto_first}
 use Rattle.std.specs.Prelude.{if◌then◌else◌}
 use Rattle.std.proofs.lemmas.List.Elements.{All-head, All-tail}
@@ -43,14 +41,14 @@ lines_last : (byte : ℕ) (line : List ℕ) → All no_lf (byte ∷ line) → li
 lines_last byte [] apart = lines_cons byte [] (All-head no_lf byte [] apart)
 lines_last byte (next ∷ line) apart =
     lines_cons byte (next ∷ line) (All-head no_lf byte (next ∷ line) apart) ∙
-        ap (onto_first byte) (lines_last next line (All-tail no_lf byte (next ∷ line) apart))
+    ap (onto_first byte) (lines_last next line (All-tail no_lf byte (next ∷ line) apart))
 
 -- a line ends at its LF
 pub lines_of_line : (line rest : List ℕ) → All no_lf line → lines_of (line ++ 10 ∷ rest) ≡ line ∷ lines_of rest
 lines_of_line [] rest apart = refl
 lines_of_line (byte ∷ line) rest apart =
     lines_cons byte (line ++ 10 ∷ rest) (All-head no_lf byte line apart) ∙
-        ap (onto_first byte) (lines_of_line line rest (All-tail no_lf byte line apart))
+    ap (onto_first byte) (lines_of_line line rest (All-tail no_lf byte line apart))
 
 -- the lines of a text that has no LF
 pub lines_of_last : (text : List ℕ) → false ≡ (length text == 0) → All no_lf text → lines_of text ≡ text ∷ []
@@ -65,7 +63,7 @@ pub lines_cut_some : (text line : List ℕ) (rest : Option (Bor (List ℕ))) (af
     cut_says text line rest → rest ≡ Some after → lines_of text ≡ line ∷ lines_of after.now
 lines_cut_some text line rest after apart whole is =
     let so_far : cut_says text line (Some after) =
-        subst (cut_says text line) is whole in ap lines_of so_far ∙ lines_of_line line after.now apart
+    subst (cut_says text line) is whole in ap lines_of so_far ∙ lines_of_line line after.now apart
 
 pub lines_cut_none : (text line : List ℕ) (rest : Option (Bor (List ℕ))) → All no_lf line → cut_says text line rest →
     rest ≡ None → false ≡ (length text == 0) → lines_of text ≡ line ∷ []

@@ -4,11 +4,10 @@ use Rattle.std.specs.Fmt.{digits}
 use Rattle.std.specs.List.{join_with_byte}
 use Rattle.hex.specs.Hex.{decode_pairs, encode_with}
 use Rattle.geom_core.specs.declared.digests.Digest32.{Digest32}
-use Rattle.journal.specs.Grammar.{
-  journal_of, number_of, digest_of, single_number_of, frame_and_pages_of, pages_until_missing_of, settle_of, take_of,
-  install_of, fail_of, spoilt_digest_of, spoilt_grammar_of, spoilt_short_of, spoilt_of, spoil_of, event_without_list_of,
-  event_of, entry_of, layout_of, with_upper, with_entry, with_line, with_all_uppers,
-}
+use Rattle.journal.specs.Grammar.{journal_of, number_of, digest_of, single_number_of, frame_and_pages_of}
+use Rattle.journal.specs.Grammar.{pages_until_missing_of, settle_of, take_of, install_of, fail_of, spoilt_digest_of}
+use Rattle.journal.specs.Grammar.{spoilt_grammar_of, spoilt_short_of, spoilt_of, spoil_of, event_without_list_of}
+use Rattle.journal.specs.Grammar.{event_of, entry_of, layout_of, with_upper, with_entry, with_line, with_all_uppers}
 use Rattle.journal.specs.FieldNumber.{number_in}
 use Rattle.journal.specs.LineResult.{line_result}
 use Rattle.journal.specs.Spelling.{journal_bytes}
@@ -16,9 +15,8 @@ use Rattle.journal.specs.declared.numbers.Field.TheVariants.{Number, Dash}
 use Rattle.journal.specs.declared.reading.LineResult.TheVariants.{Comment, Accepted, Bad}
 use Rattle.journal.specs.declared.entries.Entry.{Entry}
 use Rattle.journal.specs.declared.entries.Spoilt.TheVariants.{Digest, Grammar, Short}
-use Rattle.journal.specs.declared.entries.What.TheVariants.{
-  Pin, Settle, Ask, Narrow, Unpin, Take, Install, Fail, Spoil, Starve, Full, Stop,
-}
+use Rattle.journal.specs.declared.entries.What.TheVariants.{Pin, Settle, Ask, Narrow, Unpin, Take, Install, Fail, Spoil}
+use Rattle.journal.specs.declared.entries.What.TheVariants.{Starve, Full, Stop}
 use Rattle.journal.specs.declared.journals.Journal.{Journal}
 use Rattle.journal.specs.declared.layouts.Layout.{Layout}
 

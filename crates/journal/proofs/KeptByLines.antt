@@ -1,12 +1,10 @@
 -- What each line keeps of a journal holds of the journal that a text spells.
-use Rattle.std.proofs.Common.{
-  ◌≡◌, ◌+◌, ℕ, List, [], ◌∷◌, Bool, true, false, Option, None, Some, Result, Ok, Err, refl, subst,
-}
+use Rattle.std.proofs.Common.{◌≡◌, ◌+◌, ℕ, List, [], ◌∷◌, Bool, true, false, Option, None, Some, Result, Ok, Err, refl}
+use Rattle.std.proofs.Common.{subst}
 use Rattle.std.specs.Prelude.{if◌then◌else◌}
 use Rattle.std.specs.Option.{option_map, option_map_or}
-use Rattle.journal.specs.Grammar.{
-  at_end, with_all_uppers, is_comment, journal_of, lines_of, fields_of, read_from, with_line,
-}
+use Rattle.journal.specs.Grammar.{at_end, with_all_uppers, is_comment, journal_of, lines_of, fields_of, read_from}
+use Rattle.journal.specs.Grammar.{with_line}
 use Rattle.journal.specs.declared.journals.Journal.{Journal}
 
 -- what the lines so far say, where they say something
@@ -52,7 +50,7 @@ read_keeps : (P Q : Journal → Type 0) → LinesKeep P → ((journal : Journal)
 read_keeps P Q keep complete [] so_far line journal h e = end_keeps P Q complete so_far line journal h e
 read_keeps P Q keep complete (text ∷ rest) so_far line journal h e =
     line_keeps P Q (is_comment text) so_far (with_line so_far (fields_of text))
-        (λ found. read_from found (line + 1) rest) line journal h
+    (λ found. read_from found (line + 1) rest) line journal h
     (λ found is. keep so_far found (fields_of text) h is)
     (λ found kept is. read_keeps P Q keep complete rest found (line + 1) journal kept is) e
 

@@ -1,8 +1,6 @@
 -- What a field spells as a number, below one limit and below another.
-use Rattle.std.proofs.Common.{
-  ◌≡◌, ◌&&◌, ℕ, ◌<◌, ◌≤◌, ◌^◌, List, Bool, true, false, None, Some, Result, Ok, Err, length, arith, rules, inl, inr,
-  refl, sym, ap, ◌∙◌,
-}
+use Rattle.std.proofs.Common.{◌≡◌, ◌&&◌, ℕ, ◌<◌, ◌≤◌, ◌^◌, List, Bool, true, false, None, Some, Result, Ok, Err, length}
+use Rattle.std.proofs.Common.{arith, rules, inl, inr, refl, sym, ap, ◌∙◌}
 use Rattle.std.proofs.lemmas.Bool.{cases_lt}
 use Rattle.std.specs.Prelude.{if◌then◌else◌}
 use Rattle.std.specs.Char.{is_ascii_digit}
@@ -61,7 +59,7 @@ digits_are = numerals_by_value _ (search rules)
 pub numeral_is_text : (field : List ℕ) → is_numeral field ≡ true → IsUtf8 field
 numeral_is_text field e =
     let digits =
-        (numeral_parts _ _ _ e).0 in IsUtf8-from_ascii field (IsAscii-from_digits field (digits_are.to field digits))
+    (numeral_parts _ _ _ e).0 in IsUtf8-from_ascii field (IsAscii-from_digits field (digits_are.to field digits))
 
 -- what isn't a numeral spells no number
 pub number_not : (limit : ℕ) (field : List ℕ) → is_numeral field ≡ false → None ≡ number_of limit field

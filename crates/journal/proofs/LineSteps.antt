@@ -1,7 +1,6 @@
 -- What one line makes of the reading of a text.
-use Rattle.std.proofs.Common.{
-  ◌≡◌, ◌+◌, ℕ, List, [], ◌∷◌, Bool, true, false, Option, None, Some, Result, Ok, Err, refl, sym, ap, ◌∙◌,
-}
+use Rattle.std.proofs.Common.{◌≡◌, ◌+◌, ℕ, List, [], ◌∷◌, Bool, true, false, Option, None, Some, Result, Ok, Err, refl}
+use Rattle.std.proofs.Common.{sym, ap, ◌∙◌}
 use Rattle.std.specs.Prelude.{if◌then◌else◌}
 use Rattle.std.specs.Option.{option_map_or}
 use Rattle.journal.specs.Grammar.{at_end, fields_of, is_comment, read_from, with_all_uppers, with_line}
@@ -41,7 +40,7 @@ pub read_comment : (so_far : Option Journal) (line : ℕ) (text : List ℕ) (res
 unfolding line_result
 read_comment so_far line text rest e =
     comment_as (is_comment text) (with_line so_far (fields_of text)) (read_from so_far (line + 1) rest)
-        (λ journal. read_from (Some journal) (line + 1) rest) line e
+    (λ journal. read_from (Some journal) (line + 1) rest) line e
 
 -- a line of the grammar
 pub read_accepted : (so_far : Option Journal) (found : Journal) (line : ℕ) (text : List ℕ) (rest : List (List ℕ)) →
@@ -50,7 +49,7 @@ pub read_accepted : (so_far : Option Journal) (found : Journal) (line : ℕ) (te
 unfolding line_result
 read_accepted so_far found line text rest e =
     accepted_as (is_comment text) (with_line so_far (fields_of text)) found (read_from so_far (line + 1) rest)
-        (λ journal. read_from (Some journal) (line + 1) rest) line e
+    (λ journal. read_from (Some journal) (line + 1) rest) line e
 
 -- a line outside the grammar
 pub read_bad : (so_far : Option Journal) (line : ℕ) (text : List ℕ) (rest : List (List ℕ)) →
@@ -58,7 +57,7 @@ pub read_bad : (so_far : Option Journal) (line : ℕ) (text : List ℕ) (rest : 
 unfolding line_result
 read_bad so_far line text rest e =
     bad_as (is_comment text) (with_line so_far (fields_of text)) (read_from so_far (line + 1) rest)
-        (λ journal. read_from (Some journal) (line + 1) rest) line e
+    (λ journal. read_from (Some journal) (line + 1) rest) line e
 
 -- a comment, as the loop meets it
 pub step_comment : (so_far next : Option Journal) (line : ℕ) (lines : List (List ℕ)) (text : List ℕ)

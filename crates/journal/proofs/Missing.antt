@@ -1,16 +1,13 @@
 -- The list of pages before the word `missing`, one field after another.
-use Rattle.std.proofs.Common.{
-  ◌≡◌, ◌==◌, ℕ, ◌^◌, List, [], ◌∷◌, ◌++◌, Bool, true, false, Option, None, Some, codes, length, arith, refl, sym, ap,
-  ◌∙◌,
-}
+use Rattle.std.proofs.Common.{◌≡◌, ◌==◌, ℕ, ◌^◌, List, [], ◌∷◌, ◌++◌, Bool, true, false, Option, None, Some, codes}
+use Rattle.std.proofs.Common.{length, arith, refl, sym, ap, ◌∙◌}
 use Rattle.std.specs.Prelude.{if◌then◌else◌}
 use Rattle.std.specs.Option.{option_map}
 use Rattle.std.specs.Str.{bytes_eq}
 use Rattle.std.proofs.lemmas.List.{append-nil, append_assoc}
 use Rattle.std.proofs.lemmas.Slice.Eq.{bytes_eq-Decides}
-use Rattle.journal.specs.Grammar.{
-  ◌>>=◌, after_word, around_word, is_dash, is_empty, pages_until_missing_of, number_of, numbers_of, pages_of,
-}
+use Rattle.journal.specs.Grammar.{◌>>=◌, after_word, around_word, is_dash, is_empty, pages_until_missing_of, number_of}
+use Rattle.journal.specs.Grammar.{numbers_of, pages_of}
 use Rattle.journal.specs.RestOfLine.{until_missing}
 
 -- what stands around a word, once a field before it is known not to be the word
@@ -81,7 +78,7 @@ pub read_word : (done : List ℕ) (left rest : List (List ℕ)) (field : List �
     Some (done, rest) ≡ all
 read_word done left rest field all so_far is word =
     ap (λ ns. Some (ns, rest)) (sym (append-nil done)) ∙
-        sym (ap (joined done) (ap until_missing is ∙ until_missing_word field rest word)) ∙ so_far
+    sym (ap (joined done) (ap until_missing is ∙ until_missing_word field rest word)) ∙ so_far
 
 -- another field that is no number ends the reading
 pub read_other : (done : List ℕ) (left rest : List (List ℕ)) (field : List ℕ) (all : Option (List ℕ × List (List ℕ))) →
@@ -89,7 +86,7 @@ pub read_other : (done : List ℕ) (left rest : List (List ℕ)) (field : List �
     None ≡ number_of (2 ^ 32) field → None ≡ all
 read_other done left rest field all so_far is word none =
     sym (ap (joined done) (ap until_missing is ∙ until_missing_step field rest word ∙
-        ap (λ number. before number (until_missing rest)) (sym none))) ∙ so_far
+    ap (λ number. before number (until_missing rest)) (sym none))) ∙ so_far
 
 -- a number is put to those before it
 pub read_number : (done : List ℕ) (left rest : List (List ℕ)) (field : List ℕ) (n : ℕ)
@@ -98,8 +95,8 @@ pub read_number : (done : List ℕ) (left rest : List (List ℕ)) (field : List 
     joined (done ++ n ∷ []) (until_missing rest) ≡ all
 read_number done left rest field n all so_far is word some =
     joined_before done n (until_missing rest) ∙
-        sym (ap (joined done) (ap until_missing is ∙ until_missing_step field rest word ∙
-        ap (λ number. before number (until_missing rest)) (sym some))) ∙ so_far
+    sym (ap (joined done) (ap until_missing is ∙ until_missing_step field rest word ∙
+    ap (λ number. before number (until_missing rest)) (sym some))) ∙ so_far
 
 -- no field is left
 pub read_end : (done : List ℕ) (left : List (List ℕ)) (all : Option (List ℕ × List (List ℕ))) →
@@ -147,7 +144,7 @@ pub needed_dash : (fields rest : List (List ℕ)) → Some rest ≡ after_word (
 unfolding pages_until_missing_of
 needed_dash fields rest e =
     dash_read rest ∙ sym (ap (λ fields. read_pages (around_word (codes "missing") fields))
-        (after_word_is (codes "-") fields rest e))
+    (after_word_is (codes "-") fields rest e))
 
 -- numbers before the word, at least one
 abbrev pub not_empty : Option (List ℕ × List (List ℕ)) → Option (List ℕ × List (List ℕ))

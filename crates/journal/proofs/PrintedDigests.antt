@@ -1,7 +1,6 @@
 -- A printed digest reads back.
-use Rattle.std.proofs.Common.{
-  ◌≡◌, ◌&&◌, ℕ, ◌/◌, ◌%◌, ◌<◌, List, [], ◌∷◌, Bool, true, Option, None, Some, length, arith, inl, inr, refl, ap, ◌∙◌,
-}
+use Rattle.std.proofs.Common.{◌≡◌, ◌&&◌, ℕ, ◌/◌, ◌%◌, ◌<◌, List, [], ◌∷◌, Bool, true, Option, None, Some, length, arith}
+use Rattle.std.proofs.Common.{inl, inr, refl, ap, ◌∙◌}
 use Rattle.std.specs.Prelude.{if◌then◌else◌, slice_index}
 use Rattle.std.specs.List.{All, list_all}
 use Rattle.std.specs.Option.{option_map}
@@ -30,7 +29,7 @@ digits_encode [] h = refl
 digits_encode (byte ∷ rest) h =
     let lt = All-head (λ byte. byte < 256) byte rest h in
     both_pass _ _ _ (nibble (byte / 16) (omega (arith, lt))) (nibble (byte % 16) (omega arith))
-        (digits_encode rest (All-tail (λ byte. byte < 256) byte rest h))
+    (digits_encode rest (All-tail (λ byte. byte < 256) byte rest h))
 
 are_bytes : (bytes : List ℕ) → All (λ byte. byte < 256) bytes → IsBytes bytes
 are_bytes bytes h i =
@@ -47,6 +46,6 @@ pub digest_encode : (digest : Digest32) → IsDigest digest → digest_of (encod
 unfolding digest_of
 digest_encode digest h =
     ap (λ digits. digest_from digits (result_ok (decode_sized (encode_lower digest.bytes) 32)))
-        (digits_encode digest.bytes h.1)
+    (digits_encode digest.bytes h.1)
     ∙ ap (λ decoded. digest_from true (result_ok decoded))
-        (decode_sized-encode_lower digest.bytes 32 h.0 (are_bytes digest.bytes h.1))
+    (decode_sized-encode_lower digest.bytes 32 h.0 (are_bytes digest.bytes h.1))

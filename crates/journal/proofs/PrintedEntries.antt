@@ -1,7 +1,6 @@
 -- A printed entry reads back.
-use Rattle.std.proofs.Common.{
-  ◌≡◌, ℕ, ◌<◌, ◌≤◌, ◌^◌, List, [], ◌∷◌, ◌++◌, Bool, false, Option, None, Some, codes, map, arith, refl, ap, ◌∙◌,
-}
+use Rattle.std.proofs.Common.{◌≡◌, ℕ, ◌<◌, ◌≤◌, ◌^◌, List, [], ◌∷◌, ◌++◌, Bool, false, Option, None, Some, codes, map}
+use Rattle.std.proofs.Common.{arith, refl, ap, ◌∙◌}
 use Rattle.std.specs.Prelude.{if◌then◌else◌, IfSome}
 use Rattle.std.specs.Fmt.{decimal}
 use Rattle.std.specs.List.{All}
@@ -11,14 +10,12 @@ use Rattle.std.proofs.lemmas.List.Elements.{All-head, All-tail}
 use Rattle.hex.specs.Hex.{encode_lower}
 use Rattle.journal.proofs.Missing.{around_no, onto}
 use Rattle.journal.proofs.PrintedDigests.{digest_encode}
-use Rattle.journal.proofs.PrintedNumbers.{
-  decimal_not, dash_spells_none, missing_spells_none, number_decimal, upper_spells_none,
-}
-use Rattle.journal.specs.Grammar.{
-  ◌>>=◌, after_word, around_word, entry_of, fail_of, split_first, install_of, is_dash, frame_and_pages_of,
-  single_number_of, pages_until_missing_of, number_of, numbers_of, number_or_dash_of, pages_of, event_without_list_of,
-  settle_of, spoil_of, spoilt_digest_of, spoilt_grammar_of, spoilt_of, spoilt_short_of, take_of, event_of,
-}
+use Rattle.journal.proofs.PrintedNumbers.{decimal_not, dash_spells_none, missing_spells_none, number_decimal}
+use Rattle.journal.proofs.PrintedNumbers.{upper_spells_none}
+use Rattle.journal.specs.Grammar.{◌>>=◌, after_word, around_word, entry_of, fail_of, split_first, install_of, is_dash}
+use Rattle.journal.specs.Grammar.{frame_and_pages_of, single_number_of, pages_until_missing_of, number_of, numbers_of}
+use Rattle.journal.specs.Grammar.{number_or_dash_of, pages_of, event_without_list_of, settle_of, spoil_of}
+use Rattle.journal.specs.Grammar.{spoilt_digest_of, spoilt_grammar_of, spoilt_of, spoilt_short_of, take_of, event_of}
 use Rattle.journal.specs.Spelling.{entry_fields, list_fields, number_or_dash, spoilt_fields, event_fields}
 use Rattle.journal.specs.Typed.{Is32, IsDigest, IsTyped, IsTypedSpoilt, IsTypedWhat}
 use Rattle.geom_core.specs.declared.digests.Digest32.{Digest32}
@@ -26,9 +23,8 @@ use Rattle.journal.specs.declared.entries.Entry.{Entry}
 use Rattle.journal.specs.declared.entries.Spoilt.{Spoilt}
 use Rattle.journal.specs.declared.entries.Spoilt.TheVariants.{Digest, Grammar, Short}
 use Rattle.journal.specs.declared.entries.What.{What}
-use Rattle.journal.specs.declared.entries.What.TheVariants.{
-  Pin, Settle, Ask, Narrow, Unpin, Take, Install, Fail, Spoil, Starve, Full, Stop,
-}
+use Rattle.journal.specs.declared.entries.What.TheVariants.{Pin, Settle, Ask, Narrow, Unpin, Take, Install, Fail, Spoil}
+use Rattle.journal.specs.declared.entries.What.TheVariants.{Starve, Full, Stop}
 
 pub number_32 : (n : ℕ) → Is32 n → number_of (2 ^ 32) (decimal n) ≡ Some n
 number_32 n lt = number_decimal (2 ^ 32) n lt (omega (arith, lt))
@@ -52,8 +48,8 @@ pages_list [] h = refl
 pages_list (page ∷ pages) h =
     let lt = All-head Is32 page pages h in
     let dash =
-        no_dash (decimal page) (map decimal pages)
-        (decimal_not page (codes "-") (omega (arith, lt)) dash_spells_none) in
+    no_dash (decimal page) (map decimal pages)
+    (decimal_not page (codes "-") (omega (arith, lt)) dash_spells_none) in
     ap (λ dash. if dash then Some [] else numbers_of (2 ^ 32) (map decimal (page ∷ pages))) dash
     ∙ numbers_decimal (2 ^ 32) (page ∷ pages) (omega arith) h
 
@@ -63,7 +59,7 @@ around_numbers [] rest h = refl
 around_numbers (n ∷ numbers) rest h =
     let lt = All-head Is32 n numbers h in
     around_no (codes "missing") (decimal n) (map decimal numbers ++ codes "missing" ∷ rest)
-        (decimal_not n (codes "missing") (omega (arith, lt)) missing_spells_none)
+    (decimal_not n (codes "missing") (omega (arith, lt)) missing_spells_none)
     ∙ ap (onto (decimal n)) (around_numbers numbers rest (All-tail Is32 n numbers h))
 
 around_list : (pages : List ℕ) (rest : List (List ℕ)) → All Is32 pages →
@@ -112,8 +108,8 @@ take_decimal : (frame : Option ℕ) (page : ℕ) (victim : Option ℕ) → IfSom
 unfolding take_of
 take_decimal frame page victim f p v =
     let first =
-        number_or_dash_decimal frame f in let second = number_32 page p in let third =
-        number_or_dash_decimal victim v in simp (first, second, third) refl
+    number_or_dash_decimal frame f in let second = number_32 page p in let third =
+    number_or_dash_decimal victim v in simp (first, second, third) refl
 
 install_decimal : (page : ℕ) (digest : Digest32) → Is32 page → IsDigest digest →
     install_of (decimal page ∷ encode_lower digest.bytes ∷ []) ≡ Some (Install page digest)
@@ -138,8 +134,8 @@ spoilt_printed (Digest stated found) h =
 spoilt_printed (Grammar rule offset) h =
     let lt = h.0 in
     let first =
-        number_decimal (2 ^ 8) rule lt (omega (arith, lt)) in let second =
-        number_32 offset h.1 in simp (first, second) refl
+    number_decimal (2 ^ 8) rule lt (omega (arith, lt)) in let second =
+    number_32 offset h.1 in simp (first, second) refl
 spoilt_printed (Short got) h = let first = number_32 got h in simp first refl
 
 spoil_step : (page : ℕ) (number : Option ℕ) (fields : Option (List ℕ × List (List ℕ))) (why : Spoilt) →
@@ -190,11 +186,11 @@ pub entry_printed : (entry : Entry) → IsTyped entry → entry_of (entry_fields
 unfolding entry_of
 entry_printed entry h =
     entry_step entry.by (number_of (2 ^ 32) (decimal entry.by)) (split_first (event_fields entry.what)) entry.what
-        (number_32 entry.by h.0) (event_printed entry.what h.1)
+    (number_32 entry.by h.0) (event_printed entry.what h.1)
 
 -- and they aren't those of an `upper` line
 pub entry_no_upper : (entry : Entry) → IsTyped entry → after_word (codes "upper") (entry_fields entry) ≡ None
 entry_no_upper entry h =
     let by = h.0 in
     ap (λ b. if b then Some (event_fields entry.what) else None)
-        (decimal_not entry.by (codes "upper") (omega (arith, by)) upper_spells_none)
+    (decimal_not entry.by (codes "upper") (omega (arith, by)) upper_spells_none)

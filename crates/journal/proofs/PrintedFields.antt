@@ -22,11 +22,11 @@ pub fields_of_join : (field : List ℕ) (rest : List (List ℕ)) → All (All Is
     fields_of (join_with_byte 32 (field ∷ rest)) ≡ field ∷ rest
 fields_of_join field [] plain =
     slice_split_none (λ byte. byte == 32) field
-        (All-weaker IsPlain (λ byte. (byte == 32) ≡ false) no_space field (All-head (All IsPlain) field [] plain))
+    (All-weaker IsPlain (λ byte. (byte == 32) ≡ false) no_space field (All-head (All IsPlain) field [] plain))
 fields_of_join field (next ∷ rest) plain =
     slice_split_at (λ byte. byte == 32) field 32 (join_with_byte 32 (next ∷ rest))
     (All-weaker IsPlain (λ byte. (byte == 32) ≡ false) no_space field
-        (All-head (All IsPlain) field (next ∷ rest) plain)) refl
+    (All-head (All IsPlain) field (next ∷ rest) plain)) refl
     ∙ ap (λ fields. field ∷ fields) (fields_of_join next rest (All-tail (All IsPlain) field (next ∷ rest) plain))
 
 -- no LF stands in them
@@ -37,7 +37,7 @@ no_lf_join field (next ∷ rest) plain =
     All-append no_lf field (32 ∷ join_with_byte 32 (next ∷ rest))
     (All-weaker IsPlain no_lf plain_no_lf field (All-head (All IsPlain) field (next ∷ rest) plain))
     (All-cons no_lf 32 (join_with_byte 32 (next ∷ rest)) refl
-        (no_lf_join next rest (All-tail (All IsPlain) field (next ∷ rest) plain)))
+    (no_lf_join next rest (All-tail (All IsPlain) field (next ∷ rest) plain)))
 
 no_mark : (byte : ℕ) → IsPlain byte → (byte == 35) ≡ false
 no_mark byte plain = grind arith
@@ -62,7 +62,7 @@ first_line_of : (line : List (List ℕ)) (rest : List ℕ) → IsPlainLine line 
 first_line_of [] rest plain = absurd plain
 first_line_of (field ∷ fields) rest plain =
     ap lines_of (append_assoc (join_with_byte 32 (field ∷ fields)) (10 ∷ []) rest) ∙
-        lines_of_line (join_with_byte 32 (field ∷ fields)) rest (no_lf_join field fields plain)
+    lines_of_line (join_with_byte 32 (field ∷ fields)) rest (no_lf_join field fields plain)
 
 -- the lines of the printed text
 pub lines_of_printed : (lines : List (List (List ℕ))) → All IsPlainLine lines →

@@ -1,8 +1,7 @@
 -- A printed journal reads back, line by line.
-use Rattle.std.proofs.Common.{
-  ◌≡◌, true, ℕ, ◌+◌, ◌-◌, ◌<◌, ◌≤◌, ◌^◌, List, [], ◌∷◌, ◌++◌, suc, Option, None, Some, Result, Ok, Err, codes, length,
-  get_or, map, replicate, arith, append_assoc, length-append, refl, subst, sym, ap, ◌∙◌,
-}
+use Rattle.std.proofs.Common.{◌≡◌, true, ℕ, ◌+◌, ◌-◌, ◌<◌, ◌≤◌, ◌^◌, List, [], ◌∷◌, ◌++◌, suc, Option, None, Some}
+use Rattle.std.proofs.Common.{Result, Ok, Err, codes, length, get_or, map, replicate, arith, append_assoc}
+use Rattle.std.proofs.Common.{length-append, refl, subst, sym, ap, ◌∙◌}
 use Rattle.std.specs.Prelude.{if◌then◌else◌}
 use Rattle.std.specs.Fmt.{decimal}
 use Rattle.std.specs.List.{All, join_with_byte}
@@ -18,9 +17,8 @@ use Rattle.journal.proofs.PrintedNumbers.{number_decimal}
 use Rattle.journal.proofs.PrintedFields.{IsPlainLine, lines_of_printed, no_comment_join, fields_of_join}
 use Rattle.geom_core.specs.declared.limits.TheConstants.{MAX_PAGES}
 use Rattle.journal.specs.Layout.{InBounds, UppersFit, ascends}
-use Rattle.journal.specs.Grammar.{
-  with_all_uppers, journal_of, layout_of, fields_of, read_from, up_to, with_entry, with_line, with_upper,
-}
+use Rattle.journal.specs.Grammar.{with_all_uppers, journal_of, layout_of, fields_of, read_from, up_to, with_entry}
+use Rattle.journal.specs.Grammar.{with_line, with_upper}
 use Rattle.journal.specs.Spelling.{entry_fields, journal_bytes, journal_lines, layout_fields, upper_lines}
 use Rattle.journal.specs.Typed.{Is32, IsTyped}
 use Rattle.journal.specs.declared.entries.Entry.{Entry}
@@ -37,10 +35,10 @@ read_printed : (so_far : Option Journal) (n : ℕ) (line : List (List ℕ)) (lin
 read_printed so_far n [] lines plain = absurd plain
 read_printed so_far n (field ∷ rest) lines plain =
     ap (λ comment. if comment then read_from so_far (n + 1) lines else option_map_or
-        (λ journal. read_from (Some journal) (n + 1) lines) (with_line so_far (fields_of (joined (field ∷ rest))))
-        (Err n)) (no_comment_join field rest plain)
+    (λ journal. read_from (Some journal) (n + 1) lines) (with_line so_far (fields_of (joined (field ∷ rest))))
+    (Err n)) (no_comment_join field rest plain)
     ∙ ap (λ fields. option_map_or (λ journal. read_from (Some journal) (n + 1) lines) (with_line so_far fields) (Err n))
-        (fields_of_join field rest plain)
+    (fields_of_join field rest plain)
 
 -- what a printed line says, and then the others
 read_step : (so_far : Option Journal) (next : Journal) (n : ℕ) (line : List (List ℕ)) (lines : List (List ℕ)) →
@@ -60,7 +58,7 @@ entry_line : (layout : Layout) (so_far : List Entry) (entry : Entry) → IsTyped
 unfolding with_line with_entry
 entry_line layout so_far entry h =
     ap (λ rest. option_map_or (with_upper (journal_with layout so_far)) rest
-        (with_entry (journal_with layout so_far) (entry_fields entry))) (entry_no_upper entry h)
+    (with_entry (journal_with layout so_far) (entry_fields entry))) (entry_no_upper entry h)
     ∙ ap (λ read. option_map (λ entry. journal_with layout (so_far ++ entry ∷ [])) read) (entry_printed entry h)
 
 entries_read : (entries so_far : List Entry) (layout : Layout) (n : ℕ) → All IsTyped entries →
@@ -71,7 +69,7 @@ entries_read [] so_far layout n h =
 entries_read (entry ∷ rest) so_far layout n h =
     let typed = All-head IsTyped entry rest h in
     read_step (Some (journal_with layout so_far)) (journal_with layout (so_far ++ entry ∷ [])) n (entry_fields entry)
-        (map joined (map entry_fields rest))
+    (map joined (map entry_fields rest))
     (entry_plain entry typed) (entry_line layout so_far entry typed)
     ∙ entries_read rest (so_far ++ entry ∷ []) layout (n + 1) (All-tail IsTyped entry rest h)
     ∙ ap (λ entries. Ok (with_all_uppers (journal_with layout entries))) (append_assoc so_far (entry ∷ []) rest)
@@ -88,8 +86,8 @@ unfolding with_line with_upper
 upper_line layout page upper uppers short lt fits are =
     let number = number_decimal layout.pages page lt (omega (arith, lt, fits)) in
     let listed =
-        numbers_decimal page (upper ∷ uppers) (omega (arith, lt, fits))
-        (All-from_all_below page (upper ∷ uppers) are.1) in
+    numbers_decimal page (upper ∷ uppers) (omega (arith, lt, fits))
+    (All-from_all_below page (upper ∷ uppers) are.1) in
     let within = is_least (length layout.uppers) page short in
     let ascending : ascends (upper ∷ uppers) ≡ true = are.0 in
     simp (number, listed, within, ascending) refl
@@ -121,9 +119,9 @@ one_list_more : (uppers more : List (List ℕ)) (page : ℕ) (listed : List ℕ)
     up_to (up_to uppers page ++ listed ∷ []) (page + 1) ++ more ≡ up_to uppers page ++ listed ∷ more
 one_list_more uppers more page listed le =
     let long : length (up_to uppers page ++ listed ∷ []) ≡ page + 1 =
-        omega (arith, length-append (up_to uppers page) (listed ∷ []), length-up_to uppers page le) in
+    omega (arith, length-append (up_to uppers page) (listed ∷ []), length-up_to uppers page le) in
     ap (λ lists. lists ++ more) (up_to_full (up_to uppers page ++ listed ∷ []) (page + 1) long) ∙
-        append_assoc (up_to uppers page) (listed ∷ []) more
+    append_assoc (up_to uppers page) (listed ∷ []) more
 
 no_list_more : (uppers more : List (List ℕ)) (page : ℕ) → length uppers ≤ page →
     up_to uppers (page + 1) ++ more ≡ up_to uppers page ++ [] ∷ more
@@ -153,16 +151,19 @@ uppers_read ((upper ∷ uppers) ∷ more) layout page n entries short all fits l
     let lt : page < layout.pages = omega (arith, all) in
     let lists_now = up_to layout.uppers page ++ (upper ∷ uppers) ∷ [] in
     let are_32 : All Is32 (upper ∷ uppers) =
-        All-weaker (λ u. u < page) Is32 (λ u below. omega (arith, below, lt, fits)) (upper ∷ uppers)
-        (All-from_all_below page (upper ∷ uppers) lists.0.1) in
+    All-weaker (λ u. u < page) Is32 (λ u below. omega (arith, below, lt, fits)) (upper ∷ uppers)
+    (All-from_all_below page (upper ∷ uppers) lists.0.1) in
     let long : length lists_now ≤ page + 1 =
-        omega (arith, length-append (up_to layout.uppers page) ((upper ∷ uppers) ∷ []),
-        length-up_to layout.uppers page short) in
+    omega (
+      arith,
+      length-append (up_to layout.uppers page) ((upper ∷ uppers) ∷ []),
+      length-up_to layout.uppers page short,
+    ) in
     read_step (Some (journal_with layout [])) (journal_with (with_lists layout lists_now) []) n
     (codes "upper" ∷ decimal page ∷ decimal upper ∷ map decimal uppers)
-        (map joined (upper_lines (page + 1) more ++ map entry_fields entries))
+    (map joined (upper_lines (page + 1) more ++ map entry_fields entries))
     (upper_plain page upper uppers (omega (arith, lt, fits)) are_32)
-        (upper_line layout page upper uppers short lt fits lists.0)
+    (upper_line layout page upper uppers short lt fits lists.0)
     ∙ uppers_read more (with_lists layout lists_now) (page + 1) (n + 1) entries long (omega (arith, all)) fits lists.1 h
     ∙ ap (answer layout entries) (one_list_more layout.uppers more page (upper ∷ uppers) short)
 
@@ -186,30 +187,30 @@ uppers_plain [] page fits lists = All-nil IsPlainLine
 uppers_plain ([] ∷ more) page fits lists = uppers_plain more (page + 1) (omega (arith, fits)) lists.1
 uppers_plain ((upper ∷ uppers) ∷ more) page fits lists =
     let are_32 : All Is32 (upper ∷ uppers) =
-        All-weaker (λ u. u < page) Is32 (λ u below. omega (arith, below, fits)) (upper ∷ uppers)
-        (All-from_all_below page (upper ∷ uppers) lists.0.1) in
+    All-weaker (λ u. u < page) Is32 (λ u below. omega (arith, below, fits)) (upper ∷ uppers)
+    (All-from_all_below page (upper ∷ uppers) lists.0.1) in
     All-cons IsPlainLine (codes "upper" ∷ decimal page ∷ decimal upper ∷ map decimal uppers)
-        (upper_lines (page + 1) more)
+    (upper_lines (page + 1) more)
     (upper_plain page upper uppers (omega (arith, fits)) are_32)
-        (uppers_plain more (page + 1) (omega (arith, fits)) lists.1)
+    (uppers_plain more (page + 1) (omega (arith, fits)) lists.1)
 
 uppers_lists : (layout : Layout) → InBounds layout → ListsFrom 0 layout.uppers
 uppers_lists layout h =
     lists_from layout.uppers 0 (λ i lt. let same : i ≡ 0 + i =
-        omega arith in subst (λ p. UppersFit p (get_or layout.uppers i [])) same (h.uppers i lt))
+    omega arith in subst (λ p. UppersFit p (get_or layout.uppers i [])) same (h.uppers i lt))
 
 journal_plain : (layout : Layout) (entries : List Entry) → InBounds layout → All IsTyped entries →
     All IsPlainLine (journal_lines layout entries)
 journal_plain layout entries h typed =
     let p =
-        h.counts.page_limit in let r = h.counts.roots_are_pages in let s = h.counts.slot_limit in let c =
-        h.list_a_page in
+    h.counts.page_limit in let r = h.counts.roots_are_pages in let s = h.counts.slot_limit in let c =
+    h.list_a_page in
     All-cons IsPlainLine (layout_fields layout) (upper_lines 0 layout.uppers ++ map entry_fields entries)
     (layout_plain layout (omega (arith, p)) (omega (arith, p, r)) (omega (arith, s)))
     (All-append IsPlainLine (upper_lines 0 layout.uppers) (map entry_fields entries)
     (uppers_plain layout.uppers 0 (omega (arith, p, c)) (uppers_lists layout h))
     (All-map IsPlainLine entry_fields entries
-        (All-weaker IsTyped (λ entry. IsPlainLine (entry_fields entry)) entry_plain entries typed)))
+    (All-weaker IsTyped (λ entry. IsPlainLine (entry_fields entry)) entry_plain entries typed)))
 
 -- the law
 pub reads_back : (layout : Layout) (entries : List Entry) → InBounds layout → All IsTyped entries →
@@ -219,9 +220,9 @@ reads_back layout entries h typed =
     let c = h.list_a_page in
     ap (read_from None 1) (lines_of_printed (journal_lines layout entries) (journal_plain layout entries h typed))
     ∙ read_step None (journal_with start []) 1 (layout_fields layout)
-        (map joined (upper_lines 0 layout.uppers ++ map entry_fields entries))
+    (map joined (upper_lines 0 layout.uppers ++ map entry_fields entries))
     (All-head IsPlainLine (layout_fields layout) (upper_lines 0 layout.uppers ++ map entry_fields entries)
-        (journal_plain layout entries h typed))
+    (journal_plain layout entries h typed))
     (layout_line layout h)
     ∙ uppers_read layout.uppers start 0 2 entries (omega arith) (omega (arith, c)) h.counts.page_limit
-        (uppers_lists layout h) typed
+    (uppers_lists layout h) typed

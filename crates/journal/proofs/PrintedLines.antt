@@ -12,17 +12,15 @@ use Rattle.geom_core.specs.declared.digests.Digest32.{Digest32}
 use Rattle.journal.proofs.PrintedDigests.{digits_encode}
 use Rattle.journal.proofs.PrintedFields.{IsPlain, IsPlainLine}
 use Rattle.journal.specs.Grammar.{is_digest_digit}
-use Rattle.journal.specs.Spelling.{
-  entry_fields, layout_fields, list_fields, number_or_dash, spoilt_fields, event_fields,
-}
+use Rattle.journal.specs.Spelling.{entry_fields, layout_fields, list_fields, number_or_dash, spoilt_fields}
+use Rattle.journal.specs.Spelling.{event_fields}
 use Rattle.journal.specs.Typed.{Is32, IsDigest, IsTyped, IsTypedSpoilt, IsTypedWhat}
 use Rattle.journal.specs.declared.entries.Entry.{Entry}
 use Rattle.journal.specs.declared.entries.Spoilt.{Spoilt}
 use Rattle.journal.specs.declared.entries.Spoilt.TheVariants.{Digest, Grammar, Short}
 use Rattle.journal.specs.declared.entries.What.{What}
-use Rattle.journal.specs.declared.entries.What.TheVariants.{
-  Pin, Settle, Ask, Narrow, Unpin, Take, Install, Fail, Spoil, Starve, Full, Stop,
-}
+use Rattle.journal.specs.declared.entries.What.TheVariants.{Pin, Settle, Ask, Narrow, Unpin, Take, Install, Fail, Spoil}
+use Rattle.journal.specs.declared.entries.What.TheVariants.{Starve, Full, Stop}
 use Rattle.journal.specs.declared.layouts.Layout.{Layout}
 
 -- a field, and several
@@ -59,7 +57,7 @@ hex digest h =
 number : (n : ℕ) → n < 2 ^ 64 → Plain (decimal n)
 number n fits =
     All-from_get_or IsPlain (decimal n) 0 (λ i lt. let range =
-        digit_at (decimal n) i (decimal_is_IsNumeral n fits).0.1 lt in omega (arith, range))
+    digit_at (decimal n) i (decimal_is_IsNumeral n fits).0.1 lt in omega (arith, range))
 
 number_32 : (n : ℕ) → Is32 n → Plain (decimal n)
 number_32 n h = number n (omega (arith, h))

@@ -1,7 +1,6 @@
 -- A printed number and a printed digest read back.
-use Rattle.std.proofs.Common.{
-  ◌≡◌, ◌==◌, ◌&&◌, ℕ, ◌<◌, ◌^◌, List, Bool, not, true, false, None, Some, codes, length, arith, inl, inr, refl, ap, ◌∙◌,
-}
+use Rattle.std.proofs.Common.{◌≡◌, ◌==◌, ◌&&◌, ℕ, ◌<◌, ◌^◌, List, Bool, not, true, false, None, Some, codes, length}
+use Rattle.std.proofs.Common.{arith, inl, inr, refl, ap, ◌∙◌}
 use Rattle.std.specs.Prelude.{nat_lt, slice_index}
 use Rattle.std.specs.Fmt.{decimal}
 use Rattle.std.specs.Str.{bytes_eq}

@@ -1,8 +1,6 @@
 -- The entries that a text spells have numbers within their types.
-use Rattle.std.proofs.Common.{
-  ◌≡◌, ℕ, ◌<◌, ◌^◌, List, [], ◌∷◌, ◌++◌, Bool, true, false, Option, None, Some, Result, Ok, Err, codes, length, arith,
-  refl, subst, sym, ◌∙◌,
-}
+use Rattle.std.proofs.Common.{◌≡◌, ℕ, ◌<◌, ◌^◌, List, [], ◌∷◌, ◌++◌, Bool, true, false, Option, None, Some, Result, Ok}
+use Rattle.std.proofs.Common.{Err, codes, length, arith, refl, subst, sym, ◌∙◌}
 use Rattle.std.specs.Prelude.{if◌then◌else◌, IfSome}
 use Rattle.std.specs.List.{All, list_all}
 use Rattle.std.specs.Option.{option_map, option_map_or}
@@ -15,21 +13,19 @@ use Rattle.hex.specs.declared.error.FromHexError.{FromHexError}
 use Rattle.geom_core.specs.declared.digests.Digest32.{Digest32}
 use Rattle.journal.proofs.Bounded.{bind_some, number_lt, some_numbers_lt}
 use Rattle.journal.proofs.KeptByLines.{LinesKeep, journal_keeps}
-use Rattle.journal.specs.Grammar.{
-  after_word, around_word, with_all_uppers, digest_of, entry_of, fail_of, split_first, install_of, is_dash,
-  is_digest_digit, journal_of, layout_of, frame_and_pages_of, single_number_of, pages_until_missing_of, number_of,
-  single, number_or_dash_of, pages_of, pair, event_without_list_of, settle_of, some_numbers_of, spoil_of,
-  spoilt_digest_of, spoilt_grammar_of, spoilt_of, spoilt_short_of, stop_of, take_of, triple, event_of, with_entry,
-  with_line, with_upper,
-}
+use Rattle.journal.specs.Grammar.{after_word, around_word, with_all_uppers, digest_of, entry_of, fail_of, split_first}
+use Rattle.journal.specs.Grammar.{install_of, is_dash, is_digest_digit, journal_of, layout_of, frame_and_pages_of}
+use Rattle.journal.specs.Grammar.{single_number_of, pages_until_missing_of, number_of, single, number_or_dash_of}
+use Rattle.journal.specs.Grammar.{pages_of, pair, event_without_list_of, settle_of, some_numbers_of, spoil_of}
+use Rattle.journal.specs.Grammar.{spoilt_digest_of, spoilt_grammar_of, spoilt_of, spoilt_short_of, stop_of, take_of}
+use Rattle.journal.specs.Grammar.{triple, event_of, with_entry, with_line, with_upper}
 use Rattle.journal.specs.Typed.{Is32, IsDigest, IsTyped, IsTypedSpoilt, IsTypedWhat}
 use Rattle.journal.specs.declared.entries.Entry.{Entry}
 use Rattle.journal.specs.declared.entries.Spoilt.{Spoilt}
 use Rattle.journal.specs.declared.entries.Spoilt.TheVariants.{Digest, Grammar, Short}
 use Rattle.journal.specs.declared.entries.What.{What}
-use Rattle.journal.specs.declared.entries.What.TheVariants.{
-  Pin, Settle, Ask, Narrow, Unpin, Take, Install, Fail, Spoil, Starve, Full, Stop,
-}
+use Rattle.journal.specs.declared.entries.What.TheVariants.{Pin, Settle, Ask, Narrow, Unpin, Take, Install, Fail, Spoil}
+use Rattle.journal.specs.declared.entries.What.TheVariants.{Starve, Full, Stop}
 use Rattle.journal.specs.declared.journals.Journal.{Journal}
 
 -- P of what is read, in either branch, through a function, and as it stands
@@ -57,10 +53,10 @@ single_number fields n e = let a = bind_some (single fields) _ n e in number_32 
 number_or_dash : (field : List ℕ) (number : Option ℕ) → number_or_dash_of field ≡ Some number → IfSome number Is32
 number_or_dash field number e =
     either (λ number. IfSome number Is32) (bytes_eq field (codes "-")) (Some None)
-        (option_map Some (number_of (2 ^ 32) field)) number
+    (option_map Some (number_of (2 ^ 32) field)) number
     (λ found is. read_as (λ number. IfSome number Is32) None found tt is)
     (λ found is. mapped (λ number. IfSome number Is32) Some (number_of (2 ^ 32) field) found
-        (λ n is. number_32 field n is) is) e
+    (λ n is. number_32 field n is) is) e
 
 pages : (fields : List (List ℕ)) (list : List ℕ) → pages_of fields ≡ Some list → All Is32 list
 pages fields list e =
@@ -85,7 +81,7 @@ digest : (field : List ℕ) (sum : Digest32) → digest_of field ≡ Some sum �
 unfolding digest_of
 digest field sum e =
     either IsDigest (list_all is_digest_digit field)
-        (option_map (λ bytes. record { bytes = bytes }) (result_ok (decode_sized field 32))) None sum
+    (option_map (λ bytes. record { bytes = bytes }) (result_ok (decode_sized field 32))) None sum
     (λ found is. digest_ok (decode_sized field 32) found (λ bytes is. decoded field bytes is) is)
     (λ found is. cc) e
 
@@ -98,7 +94,7 @@ frame_and_pages fields found e =
     let b = bind_some (after_word (codes "pages") a.0.1) _ found frame.2 in
     let list = bind_some (pages_of b.0) _ found b.2 in
     read_as (λ found. Is32 found.0 × All Is32 found.1) (frame.0, list.0) found
-        (number_32 a.0.0 frame.0 frame.1, pages b.0 list.0 list.1) list.2
+    (number_32 a.0.0 frame.0 frame.1, pages b.0 list.0 list.1) list.2
 
 pages_until_missing : (fields : List (List ℕ)) (found : List ℕ × List (List ℕ)) →
     pages_until_missing_of fields ≡ Some found → All Is32 found.0
@@ -118,7 +114,7 @@ settle fields what e =
     let second = bind_some (pages_of first.0.1) _ what first.2 in
     read_as IsTypedWhat (Settle frame.0 first.0.0 second.0) what
     (number_32 a.0.0 frame.0 frame.1, pages_until_missing b.0 first.0 first.1, pages first.0.1 second.0 second.1)
-        second.2
+    second.2
 
 take : (fields : List (List ℕ)) (what : What) → take_of fields ≡ Some what → IsTypedWhat what
 unfolding take_of
@@ -129,7 +125,7 @@ take fields what e =
     let victim = bind_some (number_or_dash_of a.0.2) _ what page.2 in
     read_as IsTypedWhat (Take frame.0 page.0 victim.0) what
     (number_or_dash a.0.0 frame.0 frame.1, number_32 a.0.1 page.0 page.1, number_or_dash a.0.2 victim.0 victim.1)
-        victim.2
+    victim.2
 
 install : (fields : List (List ℕ)) (what : What) → install_of fields ≡ Some what → IsTypedWhat what
 unfolding install_of
@@ -146,9 +142,11 @@ fail fields what e =
     let page = bind_some (number_of (2 ^ 32) a.0.0) _ what a.2 in
     let before = bind_some (number_of (2 ^ 64) a.0.1) _ what page.2 in
     let after = bind_some (number_of (2 ^ 64) a.0.2) _ what before.2 in
-    read_as IsTypedWhat (Fail page.0 before.0 after.0) what
-    (number_32 a.0.0 page.0 page.1, number_lt (2 ^ 64) a.0.1 before.0 before.1,
-        number_lt (2 ^ 64) a.0.2 after.0 after.1) after.2
+    read_as IsTypedWhat (Fail page.0 before.0 after.0) what (
+      number_32 a.0.0 page.0 page.1,
+      number_lt (2 ^ 64) a.0.1 before.0 before.1,
+      number_lt (2 ^ 64) a.0.2 after.0 after.1,
+    ) after.2
 
 spoilt_digest : (fields : List (List ℕ)) (why : Spoilt) → spoilt_digest_of fields ≡ Some why → IsTypedSpoilt why
 unfolding spoilt_digest_of
@@ -157,7 +155,7 @@ spoilt_digest fields why e =
     let stated = bind_some (digest_of a.0.0) _ why a.2 in
     let found = bind_some (digest_of a.0.1) _ why stated.2 in
     read_as IsTypedSpoilt (Digest stated.0 found.0) why
-        (digest a.0.0 stated.0 stated.1, digest a.0.1 found.0 found.1) found.2
+    (digest a.0.0 stated.0 stated.1, digest a.0.1 found.0 found.1) found.2
 
 spoilt_grammar : (fields : List (List ℕ)) (why : Spoilt) → spoilt_grammar_of fields ≡ Some why → IsTypedSpoilt why
 unfolding spoilt_grammar_of
@@ -166,7 +164,7 @@ spoilt_grammar fields why e =
     let rule = bind_some (number_of (2 ^ 8) a.0.0) _ why a.2 in
     let offset = bind_some (number_of (2 ^ 32) a.0.1) _ why rule.2 in
     read_as IsTypedSpoilt (Grammar rule.0 offset.0) why
-        (number_lt (2 ^ 8) a.0.0 rule.0 rule.1, number_32 a.0.1 offset.0 offset.1) offset.2
+    (number_lt (2 ^ 8) a.0.0 rule.0 rule.1, number_32 a.0.1 offset.0 offset.1) offset.2
 
 spoilt_short : (fields : List (List ℕ)) (why : Spoilt) → spoilt_short_of fields ≡ Some why → IsTypedSpoilt why
 unfolding spoilt_short_of
@@ -179,11 +177,11 @@ spoilt : (word : List ℕ) (fields : List (List ℕ)) (why : Spoilt) → spoilt_
 unfolding spoilt_of
 spoilt word fields why e =
     either IsTypedSpoilt (bytes_eq word (codes "digest")) (spoilt_digest_of fields) _ why
-        (λ x is. spoilt_digest fields x is)
+    (λ x is. spoilt_digest fields x is)
     (λ x is. either IsTypedSpoilt (bytes_eq word (codes "grammar")) (spoilt_grammar_of fields) _ x
-        (λ y so. spoilt_grammar fields y so)
+    (λ y so. spoilt_grammar fields y so)
     (λ y so. either IsTypedSpoilt (bytes_eq word (codes "short")) (spoilt_short_of fields) None y
-        (λ z too. spoilt_short fields z too) (λ z too. cc) so) is) e
+    (λ z too. spoilt_short fields z too) (λ z too. cc) so) is) e
 
 spoil : (fields : List (List ℕ)) (what : What) → spoil_of fields ≡ Some what → IsTypedWhat what
 unfolding spoil_of
@@ -226,8 +224,8 @@ event_without_list : (word : List ℕ) (fields : List (List ℕ)) (what : What) 
 unfolding event_without_list_of
 event_without_list word fields what e =
     by_word (bytes_eq word (codes "pin")) (bytes_eq word (codes "unpin")) (bytes_eq word (codes "take"))
-        (bytes_eq word (codes "install")) (bytes_eq word (codes "fail")) (bytes_eq word (codes "spoil"))
-        (bytes_eq word (codes "starve")) (bytes_eq word (codes "full")) (bytes_eq word (codes "stop")) fields what e
+    (bytes_eq word (codes "install")) (bytes_eq word (codes "fail")) (bytes_eq word (codes "spoil"))
+    (bytes_eq word (codes "starve")) (bytes_eq word (codes "full")) (bytes_eq word (codes "stop")) fields what e
 
 -- those with lists, by which word it is
 by_list_word : (is_settle is_ask is_narrow : Bool) (word : List ℕ) (fields : List (List ℕ)) (what : What) →
@@ -237,17 +235,17 @@ by_list_word : (is_settle is_ask is_narrow : Bool) (word : List ℕ) (fields : L
 by_list_word true b c word fields what is = settle fields what is
 by_list_word false true c word fields what is =
     mapped IsTypedWhat (λ found. Ask found.0 found.1) (frame_and_pages_of fields) what
-        (λ found so. frame_and_pages fields found so) is
+    (λ found so. frame_and_pages fields found so) is
 by_list_word false false true word fields what is =
     mapped IsTypedWhat (λ found. Narrow found.0 found.1) (frame_and_pages_of fields) what
-        (λ found so. frame_and_pages fields found so) is
+    (λ found so. frame_and_pages fields found so) is
 by_list_word false false false word fields what is = event_without_list word fields what is
 
 event : (word : List ℕ) (fields : List (List ℕ)) (what : What) → event_of word fields ≡ Some what → IsTypedWhat what
 unfolding event_of
 event word fields what e =
     by_list_word (bytes_eq word (codes "settle")) (bytes_eq word (codes "ask"))
-        (bytes_eq word (codes "narrow")) word fields what e
+    (bytes_eq word (codes "narrow")) word fields what e
 
 entry : (fields : List (List ℕ)) (found : Entry) → entry_of fields ≡ Some found → IsTyped found
 unfolding entry_of
@@ -257,7 +255,7 @@ entry fields found e =
     let b = bind_some (split_first a.0.1) _ found by.2 in
     let what = bind_some (event_of b.0.0 b.0.1) _ found b.2 in
     read_as IsTyped (record { by = by.0; what = what.0 }) found
-        (number_32 a.0.0 by.0 by.1, event b.0.0 b.0.1 what.0 what.1) what.2
+    (number_32 a.0.0 by.0 by.1, event b.0.0 b.0.1 what.0 what.1) what.2
 
 -- a journal whose entries are
 abbrev HasTypedEntries : Journal → Type 0
@@ -293,7 +291,7 @@ line_keeps : LinesKeep HasTypedEntries
 unfolding with_line
 line_keeps None next fields h e =
     mapped HasTypedEntries (λ layout. record { layout = layout; entries = [] }) (layout_of fields) next
-        (λ layout is. All-nil IsTyped) e
+    (λ layout is. All-nil IsTyped) e
 line_keeps (Some journal) next fields h e = either_keeps journal next (after_word (codes "upper") fields) fields h e
 
 all_uppers_keep : (journal : Journal) → HasTypedEntries journal → HasTypedEntries (with_all_uppers journal)

@@ -1,8 +1,7 @@
 -- The texts that spell a journal, and the first line outside the grammar of another text.
-use Rattle.std.specs.Prelude.{
-  ℕ, ◌+◌, ◌-◌, ◌^◌, ◌==◌, ◌&&◌, ◌||◌, not, nat_le, nat_lt, Bool, true, false, if◌then◌else◌, List, [], ◌∷◌, ◌++◌,
-  Option, None, Some, Result, Ok, Err, length, replicate, slice_index, codes,
-}
+use Rattle.std.specs.Prelude.{ℕ, ◌+◌, ◌-◌, ◌^◌, ◌==◌, ◌&&◌, ◌||◌, not, nat_le, nat_lt, Bool, true, false, if◌then◌else◌}
+use Rattle.std.specs.Prelude.{List, [], ◌∷◌, ◌++◌, Option, None, Some, Result, Ok, Err, length, replicate, slice_index}
+use Rattle.std.specs.Prelude.{codes}
 use Rattle.std.specs.List.{slice_split, onto_first, list_all}
 use Rattle.std.specs.Option.{option_map, option_map_or}
 use Rattle.std.specs.Result.{result_ok}
@@ -16,9 +15,8 @@ use Rattle.journal.specs.declared.entries.Entry.{Entry}
 use Rattle.journal.specs.declared.entries.Spoilt.{Spoilt}
 use Rattle.journal.specs.declared.entries.Spoilt.TheVariants.{Digest, Grammar, Short}
 use Rattle.journal.specs.declared.entries.What.{What}
-use Rattle.journal.specs.declared.entries.What.TheVariants.{
-  Pin, Settle, Ask, Narrow, Unpin, Take, Install, Fail, Spoil, Starve, Full, Stop,
-}
+use Rattle.journal.specs.declared.entries.What.TheVariants.{Pin, Settle, Ask, Narrow, Unpin, Take, Install, Fail, Spoil}
+use Rattle.journal.specs.declared.entries.What.TheVariants.{Starve, Full, Stop}
 use Rattle.journal.specs.declared.journals.Journal.{Journal}
 use Rattle.journal.specs.declared.layouts.Layout.{Layout}
 use Rattle.journal.specs.Layout.{ascends}
@@ -52,7 +50,7 @@ fields_of line = slice_split (λ byte. byte == 32) line
 abbrev pub is_numeral : List ℕ → Bool
 is_numeral field =
     list_all is_ascii_digit field && nat_lt 0 (length field) && not
-        (slice_index field 0 == 48 && nat_lt 1 (length field))
+    (slice_index field 0 == 48 && nat_lt 1 (length field))
 
 -- the number if it is below `limit`, else none
 abbrev pub below : ℕ → ℕ → Option ℕ
@@ -290,8 +288,10 @@ with_upper journal fields = do
   listed ← some_numbers_of page rest
   if is_empty journal.entries && nat_le (length journal.layout.uppers) page && ascends listed
       then Some
-          (record journal { layout = record journal.layout
-          { uppers = up_to journal.layout.uppers page ++ listed ∷ [] } })
+      (record journal {
+        layout = record journal.layout
+            { uppers = up_to journal.layout.uppers page ++ listed ∷ [] };
+      })
       else None
 
 -- a journal with the entry of a line
@@ -323,7 +323,7 @@ read_from so_far line [] = at_end so_far line
 read_from so_far line (text ∷ rest) =
     if is_comment text then read_from so_far (line + 1) rest
     else option_map_or (λ journal. read_from (Some journal) (line + 1) rest) (with_line so_far (fields_of text))
-        (Err line)
+    (Err line)
 
 -- the journal that a text spells, or the number, from 1, of its first line outside the grammar
 abbrev pub journal_of : List ℕ → Result Journal ℕ

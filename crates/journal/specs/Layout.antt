@@ -1,7 +1,6 @@
 -- What a layout says of the pages: which there are, and which depends on which.
-use Rattle.std.specs.Prelude.{
-  ◌≡◌, ◌==◌, ◌+◌, ◌^◌, ◌<◌, ◌≤◌, ◌&&◌, ℕ, Bool, true, List, [], ◌∷◌, length, IsTrue, nat_lt, nat_le, slice_index_or,
-}
+use Rattle.std.specs.Prelude.{◌≡◌, ◌==◌, ◌+◌, ◌^◌, ◌<◌, ◌≤◌, ◌&&◌, ℕ, Bool, true, List, [], ◌∷◌, length, IsTrue, nat_lt}
+use Rattle.std.specs.Prelude.{nat_le, slice_index_or}
 use Rattle.std.specs.List.{list_all, list_any, range_with_len}
 use Rattle.geom_core.specs.declared.limits.TheConstants.{MAX_PAGES}
 use Rattle.journal.specs.declared.layouts.Layout.{Layout}

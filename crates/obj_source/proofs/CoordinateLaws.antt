@@ -1,19 +1,14 @@
 -- The coordinate of a word, by its digits and its exponent.
-use Rattle.std.proofs.Common.{
-  ◌≡◌, ℕ, ◌+◌, ◌-◌, ◌*◌, ◌<◌, ◌≤◌, nat_lt, min, List, ◌++◌, length, take, ℤ, pos, ◌+ℤ◌, ◌-ℤ◌, Option, Some, None, Err,
-  inl, inr, refl, sym, ap, ◌∙◌, arith,
-}
+use Rattle.std.proofs.Common.{◌≡◌, ℕ, ◌+◌, ◌-◌, ◌*◌, ◌<◌, ◌≤◌, nat_lt, min, List, ◌++◌, length, take, ℤ, pos, ◌+ℤ◌}
+use Rattle.std.proofs.Common.{◌-ℤ◌, Option, Some, None, Err, inl, inr, refl, sym, ap, ◌∙◌, arith}
 use Rattle.std.proofs.lemmas.Bool.{cases_Bool, lt-leb, le-leb, lt-ltb, le-ltb}
 use Rattle.std.proofs.lemmas.Int.{ints}
 use Rattle.std.proofs.lemmas.List.{length-take}
 use Rattle.obj_source.specs.declared.numbers.NumberWhy.TheVariants.{Bad}
-use Rattle.obj_source.specs.Numerals.{
-  Numeral, has_minus, without_sign, significant, power_of, scaled, signed, times_power, in_grid, coordinate_in,
-  coordinate_of,
-}
-use Rattle.obj_source.specs.Scans.{
-  AreCounted, leading, past, digits_behind, rest_behind, exponent_behind, coordinate_from, IsBad, IsDecimal,
-}
+use Rattle.obj_source.specs.Numerals.{Numeral, has_minus, without_sign, significant, power_of, scaled, signed}
+use Rattle.obj_source.specs.Numerals.{times_power, in_grid, coordinate_in, coordinate_of}
+use Rattle.obj_source.specs.Scans.{AreCounted, leading, past, digits_behind, rest_behind, exponent_behind}
+use Rattle.obj_source.specs.Scans.{coordinate_from, IsBad, IsDecimal}
 use Rattle.obj_source.proofs.SignificantLaws.{length-significant}
 use Rattle.obj_source.proofs.NumeralLaws.{numeral, numeral_or_none, numeral_of_is, no_exponent}
 
@@ -52,13 +47,13 @@ IsBad_long word long =
 pub IsBad_empty : (word : List ℕ) → length (whole_of word) ≡ 0 → length (fraction_of word) ≡ 0 → IsBad word
 IsBad_empty word w f =
     λ scale. coordinate_of_is scale word ∙ rw
-        (le-ltb 0 (length (whole_of word) + length (fraction_of word)) (omega arith)) refl
+    (le-ltb 0 (length (whole_of word) + length (fraction_of word)) (omega arith)) refl
 
 pub IsBad_exponent : (word : List ℕ) → exponent_in_word word ≡ None → IsBad word
 IsBad_exponent word e =
     λ scale. coordinate_of_is scale word
     ∙ ap (λ (exponent : Option ℤ). coordinate_in scale
-        (numeral_or_none word (whole_of word) (fraction_of word) exponent)) e
+    (numeral_or_none word (whole_of word) (fraction_of word) exponent)) e
     ∙ ap (coordinate_in scale) (no_exponent word (whole_of word) (fraction_of word))
 
 -- ---- words that give one

@@ -18,7 +18,7 @@ pub digits_step : (word : List ℕ) (i : ℕ) → i < length word → is_ascii_d
     digits_value 10 (take (i + 1) word) ≡ digits_value 10 (take i word) * 10 + (get_or word i 0 - 48)
 digits_step word i here digit =
     digits_value_more 10 word i here ∙ ap (λ (d : ℕ). digits_value 10 (take i word) * 10 + d)
-        (digit_is (get_or word i 0) digit).0
+    (digit_is (get_or word i 0) digit).0
 
 pub all_digits_step : (word : List ℕ) (i : ℕ) → i < length word → list_all is_ascii_digit (take i word) ≡ true →
     is_ascii_digit (get_or word i 0) ≡ true → list_all is_ascii_digit (take (i + 1) word) ≡ true

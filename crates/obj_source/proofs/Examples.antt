@@ -5,15 +5,13 @@ use Rattle.geom_core.specs.declared.triangles.Tri.{Tri}
 use Rattle.geom_core.specs.EdgeSum.{same_point}
 use Rattle.obj_source.specs.declared.faults.ObjFault.{ObjFault}
 use Rattle.obj_source.specs.declared.faults.ObjFault.TheVariants.{Line, Empty}
-use Rattle.obj_source.specs.declared.faults.ObjWhy.TheVariants.{
-  BadNumber, OutOfRange, BadCorner, NoSuchVertex, ShortFace,
-}
+use Rattle.obj_source.specs.declared.faults.ObjWhy.TheVariants.{BadNumber, OutOfRange, BadCorner, NoSuchVertex}
+use Rattle.obj_source.specs.declared.faults.ObjWhy.TheVariants.{ShortFace}
 use Rattle.obj_source.specs.Lines.{words_of, without_return}
 use Rattle.obj_source.specs.Readings.{HasNoFault, ReadsNoFault}
 use Rattle.obj_source.specs.Numerals.{coordinate_of, numeral_of, exponent_of, scaled}
-use Rattle.obj_source.specs.Mesh.{
-  MeshSoFar, nothing, mesh, read_lines, ended_lines, with_line, vertex_of, face_of, corner_of, vertex_named,
-}
+use Rattle.obj_source.specs.Mesh.{MeshSoFar, nothing, mesh, read_lines, ended_lines, with_line, vertex_of, face_of}
+use Rattle.obj_source.specs.Mesh.{corner_of, vertex_named}
 use Rattle.geom_core.specs.Limits.{has_distinct_corners}
 
 abbrev point : ℤ → ℤ → ℤ → Pt

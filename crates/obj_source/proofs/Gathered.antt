@@ -1,8 +1,6 @@
 -- What the bytes that were read and taken in say of the whole text, at each end of the reading.
-use Rattle.std.proofs.Common.{
-  ◌≡◌, ℕ, ◌+◌, ◌≤◌, List, [], ◌++◌, length, take, drop, Option, Some, None, option_map, Result, Err, refl, ap, sym, inl,
-  inr, ◌∙◌, subst, append_assoc, arith,
-}
+use Rattle.std.proofs.Common.{◌≡◌, ℕ, ◌+◌, ◌≤◌, List, [], ◌++◌, length, take, drop, Option, Some, None, option_map}
+use Rattle.std.proofs.Common.{Result, Err, refl, ap, sym, inl, inr, ◌∙◌, subst, append_assoc, arith}
 use Rattle.std.proofs.lemmas.List.{append-nil, take-append-drop, drop_at, length-take}
 use Rattle.std.specs.Option.{IfSome}
 use Rattle.geom_core.specs.declared.limits.TheConstants.{MAX_OBJ_BYTES}
@@ -36,12 +34,12 @@ refused_first : (scale : ℕ) (left after : Option (List ℕ)) (text : List ℕ)
     Consumed left after text → IsFirstFault scale (take MAX_OBJ_BYTES text) fault → Answers scale left (Err fault)
 refused_first scale left after text fault taken first =
     let parted : text ≡ take MAX_OBJ_BYTES text ++ drop MAX_OBJ_BYTES text =
-        sym (take-append-drop MAX_OBJ_BYTES text) in
+    sym (take-append-drop MAX_OBJ_BYTES text) in
     answers_from scale left after text (Err fault) taken
     (λ rest. ap (λ l. mesh scale (l ++ rest)) parted ∙
-        ap (mesh scale) (append_assoc (take MAX_OBJ_BYTES text) (drop MAX_OBJ_BYTES text) rest) ∙
-        mesh-fault scale (take MAX_OBJ_BYTES text) (drop MAX_OBJ_BYTES text ++ rest) fault
-        (omega (arith, length-take MAX_OBJ_BYTES text)) first)
+    ap (mesh scale) (append_assoc (take MAX_OBJ_BYTES text) (drop MAX_OBJ_BYTES text) rest) ∙
+    mesh-fault scale (take MAX_OBJ_BYTES text) (drop MAX_OBJ_BYTES text ++ rest) fault
+    (omega (arith, length-take MAX_OBJ_BYTES text)) first)
 
 refused_line : (scale : ℕ) (left after : Option (List ℕ)) (faults new_faults : ℕ) (text : List ℕ) (fault : ObjFault) →
     Consumed left after text → StopsAt scale (take MAX_OBJ_BYTES text) fault →

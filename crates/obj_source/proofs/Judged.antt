@@ -23,7 +23,7 @@ other_fault : (scale : ℕ) (mesh_so_far : MeshSoFar) (line : ℕ) (words : List
     ((why : ObjWhy) → fault ≢ Line line why) → fault ≢ TooMany → with_line scale mesh_so_far line words ≡ Err fault → ⊥
 other_fault scale mesh_so_far line words fault no_line no_many e =
     elim (with_line-fault scale mesh_so_far line words fault e)
-        [ inl own ↦ no_line own.0 own.1 | inr many ↦ no_many many ]
+    [ inl own ↦ no_line own.0 own.1 | inr many ↦ no_many many ]
 
 pub OnLineFault-from : (before : MeshBuilder) (scale : ℕ) (mesh_so_far : MeshSoFar) (line : ℕ) (words : List (List ℕ))
     (fault : ObjFault) → StandsOn before scale mesh_so_far line words →

@@ -1,8 +1,6 @@
 -- What a builder stands for, when the open line has some bytes more.
-use Rattle.std.proofs.Common.{
-  ◌≡◌, ◌≢◌, ℕ, ◌+◌, ◌≤◌, true, false, List, [], ◌∷◌, ◌++◌, length, refl, ap, sym, subst, ◌∙◌, append_assoc,
-  length-append, arith,
-}
+use Rattle.std.proofs.Common.{◌≡◌, ◌≢◌, ℕ, ◌+◌, ◌≤◌, true, false, List, [], ◌∷◌, ◌++◌, length, refl, ap, sym, subst}
+use Rattle.std.proofs.Common.{◌∙◌, append_assoc, length-append, arith}
 use Rattle.std.proofs.lemmas.List.{append-nil}
 use Rattle.std.proofs.lemmas.List.Elements.{All-nil, All-append}
 use Rattle.obj_source.specs.declared.mesh_builder.MeshBuilder.{MeshBuilder}
@@ -11,9 +9,8 @@ use Rattle.obj_source.specs.declared.obj_scanner.ScanState.TheVariants.{First, L
 use Rattle.obj_source.specs.Lines.{is_blank, words_of, without_return}
 use Rattle.obj_source.specs.Mesh.{MeshSoFar}
 use Rattle.obj_source.specs.Scanner.{parts_words, kept, WordsRead, StandsOn, StandsAt, LineRead}
-use Rattle.obj_source.proofs.LineWords.{
-  IsInside, kept-some, kept-none, words_of-blank, words_of-hash, words_of-last, words_of-long,
-}
+use Rattle.obj_source.proofs.LineWords.{IsInside, kept-some, kept-none, words_of-blank, words_of-hash, words_of-last}
+use Rattle.obj_source.proofs.LineWords.{words_of-long}
 
 pub WordsRead-nil : WordsRead [] [] []
 WordsRead-nil = record { inside = All-nil (λ b. parts_words b ≡ false); go_on = λ rest. refl }
@@ -83,9 +80,11 @@ stands_for Skipping builder scale mesh_so_far line words stands =
 pub LineRead-hash : (part : ScanState) (builder : MeshBuilder) (scale : ℕ) (mesh_so_far : MeshSoFar) (line : ℕ)
     (begun word : List ℕ) (words : List (List ℕ)) → StandsAt part builder scale mesh_so_far line (words ++ kept word) →
     WordsRead begun word words → LineRead Skipping builder [] scale mesh_so_far line (begun ++ 35 ∷ [])
-LineRead-hash part builder scale mesh_so_far line begun word words stands so_far =
-    (refl, λ rest. rw (hash_more begun word rest words so_far)
-        (stands_for part builder scale mesh_so_far line (words ++ kept word) stands))
+LineRead-hash part builder scale mesh_so_far line begun word words stands so_far = (
+  refl,
+  λ rest. rw (hash_more begun word rest words so_far)
+      (stands_for part builder scale mesh_so_far line (words ++ kept word) stands),
+)
 
 -- bytes of a line that is passed over
 pub LineRead-passed : (builder : MeshBuilder) (scale : ℕ) (mesh_so_far : MeshSoFar) (line : ℕ)
@@ -138,7 +137,7 @@ pub StandsAt-settled : (part next : ScanState) (before builder : MeshBuilder) (s
     StandsAt next builder scale mesh_so_far line (words ++ kept word)
 StandsAt-settled part next before builder scale mesh_so_far line words word some passed took settled stands =
     rw (passed, kept-some word some) (λ more. settled more
-        (took (stands_for part before scale mesh_so_far line words stands)))
+    (took (stands_for part before scale mesh_so_far line words stands)))
 
 pub StandsAt-later : (part next : ScanState) (before builder : MeshBuilder) (scale : ℕ) (mesh_so_far : MeshSoFar)
     (line : ℕ) (words : List (List ℕ)) (word : List ℕ) → 1 ≤ length word → next ≡ Later →
@@ -166,11 +165,11 @@ unfolding without_return
 LineRead-ended part now next before same builder scale mesh_so_far line begun word last read is_now is_same is_last took
     idle =
     LineRead-cases part before scale mesh_so_far line begun word
-        (StandsOn builder scale mesh_so_far line (words_of begun)) read
+    (StandsOn builder scale mesh_so_far line (words_of begun)) read
     (λ words stands so_far.
     let came = took words (rw (is_now, is_same) stands) in
     rw (at_last begun word words so_far) (stands_for next builder scale mesh_so_far line
-        (words ++ kept (without_return word)) (rw is_last at came)))
+    (words ++ kept (without_return word)) (rw is_last at came)))
     (λ passed over.
     let none : last ≡ [] = is_last ∙ ap without_return over.0 in
     let stays = over.1 [] in

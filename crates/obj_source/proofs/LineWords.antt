@@ -1,8 +1,7 @@
 -- The words of a line, when a byte or a span of bytes more stands at its front.
-use Rattle.std.proofs.Common.{
-  ◌≡◌, ◌≢◌, ℕ, zero, suc, ◌+◌, ◌≤◌, Bool, true, false, cond, ◌||◌, List, [], ◌∷◌, ◌++◌, length, take, get_or, refl, ap,
-  sym, subst, ◌∙◌, append_assoc, length-append, arith, one-add,
-}
+use Rattle.std.proofs.Common.{◌≡◌, ◌≢◌, ℕ, zero, suc, ◌+◌, ◌≤◌, Bool, true, false, cond, ◌||◌, List, [], ◌∷◌, ◌++◌}
+use Rattle.std.proofs.Common.{length, take, get_or, refl, ap, sym, subst, ◌∙◌, append_assoc, length-append, arith}
+use Rattle.std.proofs.Common.{one-add}
 use Rattle.std.specs.List.{All, filter, slice_split, before_first}
 use Rattle.std.proofs.lemmas.List.{append-nil}
 use Rattle.std.proofs.lemmas.List.Elements.{All-head, All-tail, All-cons, All-nil, All-push}
@@ -111,12 +110,12 @@ pub words_of-blank : (word : List ℕ) (b : ℕ) (rest : List ℕ) → IsInside 
 unfolding words_of
 words_of-blank word b rest inside blank =
     ap (λ l. filter is_word (slice_split is_blank (before_comment l)))
-        (without_return-before word b rest (blank_is_no_return b blank))
+    (without_return-before word b rest (blank_is_no_return b blank))
     ∙ ap (λ l. filter is_word (slice_split is_blank l))
     (before_first-append is_hash word (b ∷ without_return rest) (no_hash word inside)
     ∙ ap (λ l. word ++ l) (before_first-cons is_hash b (without_return rest) (blank_is_no_hash b blank)))
     ∙ ap (filter is_word) (slice_split_at is_blank word b (before_comment (without_return rest))
-        (no_blank word inside) blank)
+    (no_blank word inside) blank)
     ∙ filter-first word (slice_split is_blank (before_comment (without_return rest)))
 
 -- what stands behind a `#` says nothing
@@ -125,7 +124,7 @@ unfolding words_of
 words_of-hash word rest inside =
     ap (λ l. filter is_word (slice_split is_blank (before_comment l))) (without_return-before word 35 rest refl)
     ∙ ap (λ l. filter is_word (slice_split is_blank l))
-        (before_first-stop is_hash word 35 (without_return rest) (no_hash word inside) refl)
+    (before_first-stop is_hash word 35 (without_return rest) (no_hash word inside) refl)
     ∙ ap (filter is_word) (slice_split_none is_blank word (no_blank word inside))
 
 -- the last word of a line loses its CR
@@ -172,7 +171,7 @@ words_of-long word (b ∷ rest) inside long =
     byte_cases b (HasLongFirst (words_of (word ++ b ∷ rest)))
     (λ blank. kept_long word (words_of rest) _ (omega arith) (words_of-blank word b rest inside blank))
     (λ hash. kept_long word [] _ (omega arith)
-        (ap (λ h. words_of (word ++ h ∷ rest)) hash ∙ words_of-hash word rest inside ∙ sym (append-nil (kept word))))
+    (ap (λ h. words_of (word ++ h ∷ rest)) hash ∙ words_of-hash word rest inside ∙ sym (append-nil (kept word))))
     next
 
 -- the CR is the last byte, or there is none

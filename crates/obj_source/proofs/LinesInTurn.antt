@@ -1,9 +1,8 @@
 -- The lines of a text in turn: the reading of a text that goes on is the reading so far, then that of what
 -- follows; and the first fault of the lines that have ended is the text's, whatever follows.
-use Rattle.std.proofs.Common.{
-  ◌≡◌, ℕ, suc, ◌+◌, ◌-◌, ◌≤◌, ◌<◌, Bool, true, false, cond, leb, List, [], ◌∷◌, ◌++◌, length, take, Result, Ok, Err,
-  refl, ap, sym, ◌∙◌, subst, ◌⊎◌, inl, inr, length-append, arith,
-}
+use Rattle.std.proofs.Common.{◌≡◌, ℕ, suc, ◌+◌, ◌-◌, ◌≤◌, ◌<◌, Bool, true, false, cond, leb, List, [], ◌∷◌, ◌++◌}
+use Rattle.std.proofs.Common.{length, take, Result, Ok, Err, refl, ap, sym, ◌∙◌, subst, ◌⊎◌, inl, inr, length-append}
+use Rattle.std.proofs.Common.{arith}
 use Rattle.std.specs.List.{All, onto_first}
 use Rattle.std.proofs.Math.Seq.{take-append-add}
 use Rattle.std.proofs.lemmas.Bool.{le-leb, lt-leb}
@@ -15,10 +14,8 @@ use Rattle.obj_source.specs.declared.faults.ObjFault.{ObjFault}
 use Rattle.obj_source.specs.declared.faults.ObjFault.TheVariants.{Line, TooMany, TooLong}
 use Rattle.obj_source.specs.declared.faults.ObjWhy.{ObjWhy}
 use Rattle.obj_source.specs.Lines.{is_line_feed, lines_of, words_of}
-use Rattle.obj_source.specs.Mesh.{
-  ◌>>=◌, MeshSoFar, nothing, vertex_of, face_of, at_line, begins_with, with_vertex, with_triangles, with_line,
-  read_lines, some_triangles, ended_lines, mesh,
-}
+use Rattle.obj_source.specs.Mesh.{◌>>=◌, MeshSoFar, nothing, vertex_of, face_of, at_line, begins_with, with_vertex}
+use Rattle.obj_source.specs.Mesh.{with_triangles, with_line, read_lines, some_triangles, ended_lines, mesh}
 
 -- a reading of two steps behind a first one
 behind_first : (first : Result MeshSoFar ObjFault) (whole one two : MeshSoFar → Result MeshSoFar ObjFault) →
@@ -45,7 +42,7 @@ pub read_lines-fault : (scale : ℕ) (mesh_so_far : MeshSoFar) (line : ℕ) (xs 
     read_lines scale mesh_so_far line xs ≡ Err fault → read_lines scale mesh_so_far line (xs ++ ys) ≡ Err fault
 read_lines-fault scale mesh_so_far line xs ys fault e =
     read_lines-append scale mesh_so_far line xs ys ∙
-        ap (λ (r : Result MeshSoFar ObjFault). r >>= (λ more. read_lines scale more (line + length xs) ys)) e
+    ap (λ (r : Result MeshSoFar ObjFault). r >>= (λ more. read_lines scale more (line + length xs) ys)) e
 
 -- where there was none, the reading goes on over the mesh so far
 pub read_lines-on : (scale : ℕ) (mesh_so_far more : MeshSoFar) (line : ℕ) (xs ys : List (List ℕ)) →
@@ -53,7 +50,7 @@ pub read_lines-on : (scale : ℕ) (mesh_so_far more : MeshSoFar) (line : ℕ) (x
     read_lines scale mesh_so_far line (xs ++ ys) ≡ read_lines scale more (line + length xs) ys
 read_lines-on scale mesh_so_far more line xs ys e =
     read_lines-append scale mesh_so_far line xs ys ∙
-        ap (λ (r : Result MeshSoFar ObjFault). r >>= (λ then. read_lines scale then (line + length xs) ys)) e
+    ap (λ (r : Result MeshSoFar ObjFault). r >>= (λ then. read_lines scale then (line + length xs) ys)) e
 
 -- a text has a first line
 record HasFirst (lines : List (List ℕ)) : Type 0 where
@@ -80,8 +77,8 @@ lines_of-append [] rest = refl
 lines_of-append (b ∷ front) rest =
     rw (lines_of-append front rest)
     (elim (is_line_feed b) as (λ v. cond v ([] ∷ lines_of front ++ lines_of rest)
-        (onto_first b (lines_of front ++ lines_of rest)) ≡ cond v ([] ∷ lines_of front)
-        (onto_first b (lines_of front)) ++ lines_of rest)
+    (onto_first b (lines_of front ++ lines_of rest)) ≡ cond v ([] ∷ lines_of front)
+    (onto_first b (lines_of front)) ++ lines_of rest)
     [ true ↦ refl | false ↦ onto_first-append b (lines_of front) (lines_of rest) (lines_of-has_first front) ])
 
 take_but_last : (xs ys : List (List ℕ)) → HasFirst ys →
@@ -106,7 +103,7 @@ pub ended_lines-last : (front last : List ℕ) → All (λ b. is_line_feed b ≡
     ended_lines (front ++ 10 ∷ last) ≡ lines_of front
 ended_lines-last front last none =
     ended_lines-append front last ∙ ap (λ (l : List (List ℕ)). lines_of front ++ l) (ended_lines-none last none) ∙
-        append-nil (lines_of front)
+    append-nil (lines_of front)
 
 -- a text of at most 2^28 bytes is read whole
 pub mesh-short : (scale : ℕ) (text : List ℕ) → length text ≤ MAX_OBJ_BYTES →
@@ -128,7 +125,7 @@ take_past : (front rest : List ℕ) → length front < MAX_OBJ_BYTES →
 take_past front rest short =
     let same : MAX_OBJ_BYTES ≡ length front + suc (MAX_OBJ_BYTES - length front - 1) = omega arith in
     ap (λ n. take n (front ++ 10 ∷ rest)) same ∙
-        take-append-add front (10 ∷ rest) (suc (MAX_OBJ_BYTES - length front - 1))
+    take-append-add front (10 ∷ rest) (suc (MAX_OBJ_BYTES - length front - 1))
 
 fault_whole : (scale : ℕ) (front rest : List ℕ) (fault : ObjFault) →
     read_lines scale nothing 1 (lines_of front) ≡ Err fault →
@@ -160,11 +157,11 @@ pub mesh-fault : (scale : ℕ) (front rest : List ℕ) (fault : ObjFault) → le
 unfolding mesh
 mesh-fault scale front rest fault short e =
     let whole =
-        fault_stays (read_lines scale nothing 1 (lines_of (front ++ 10 ∷ rest))) fault some_triangles
-        (fault_whole scale front rest fault e) in
+    fault_stays (read_lines scale nothing 1 (lines_of (front ++ 10 ∷ rest))) fault some_triangles
+    (fault_whole scale front rest fault e) in
     let cut =
-        fault_stays (read_lines scale nothing 1 (ended_lines (take MAX_OBJ_BYTES (front ++ 10 ∷ rest)))) fault
-        (λ mesh_so_far. Err TooLong) (fault_cut scale front rest fault short e) in
+    fault_stays (read_lines scale nothing 1 (ended_lines (take MAX_OBJ_BYTES (front ++ 10 ∷ rest)))) fault
+    (λ mesh_so_far. Err TooLong) (fault_cut scale front rest fault short e) in
     either (leb (length (front ++ 10 ∷ rest)) MAX_OBJ_BYTES) _ _ (Err fault) whole cut
 
 -- the fault of a line of this number

@@ -1,9 +1,7 @@
 -- The parts of a numeral, read from the left: its digits up to the first other byte, the digits behind a point
 -- there, and what the bytes behind these say of its exponent.
-use Rattle.std.proofs.Common.{
-  ◌≡◌, ℕ, suc, ◌+◌, Bool, true, false, cond, ◌&&◌, nat_lt, List, [], ◌∷◌, ◌++◌, length, take, drop, ℤ, pos, Option,
-  Some, None, inl, inr, refl, sym, ap, ◌∙◌, arith,
-}
+use Rattle.std.proofs.Common.{◌≡◌, ℕ, suc, ◌+◌, Bool, true, false, cond, ◌&&◌, nat_lt, List, [], ◌∷◌, ◌++◌, length}
+use Rattle.std.proofs.Common.{take, drop, ℤ, pos, Option, Some, None, inl, inr, refl, sym, ap, ◌∙◌, arith}
 use Rattle.std.proofs.lemmas.Bool.{cases_Bool, and_parts}
 use Rattle.std.proofs.lemmas.Bool.Decides.{nat_tests}
 use Rattle.std.proofs.lemmas.Grind.{common_steps}
@@ -11,9 +9,8 @@ use Rattle.std.proofs.lemmas.List.{take-append-drop, append-nil}
 use Rattle.std.specs.Char.{is_ascii_digit}
 use Rattle.std.specs.List.{prefix_len, position_or_len, list_all, list_any, before_first, after_first}
 use Rattle.std.specs.Option.{option_map}
-use Rattle.obj_source.specs.Numerals.{
-  Numeral, is_digits, is_point, marks_exponent, has_minus, without_sign, exponent_of, exponent_in, numeral_of,
-}
+use Rattle.obj_source.specs.Numerals.{Numeral, is_digits, is_point, marks_exponent, has_minus, without_sign}
+use Rattle.obj_source.specs.Numerals.{exponent_of, exponent_in, numeral_of}
 use Rattle.obj_source.specs.Scans.{leading, past, digits_behind, rest_behind, exponent_behind}
 
 -- ---- the first byte that passes a test, behind a first byte that doesn't, or does
@@ -170,8 +167,10 @@ no_exponent word whole fraction =
 -- the exponent stands behind digits and behind a point
 exponent_in-digits : (ds xs : List ℕ) → is_digits ds ≡ true → exponent_in (ds ++ xs) ≡ exponent_in xs
 exponent_in-digits ds xs h =
-    rw (list_any-digits marks_exponent no_digit_marks_exponent ds xs h,
-        after_first-digits marks_exponent no_digit_marks_exponent ds xs h) refl
+    rw (
+      list_any-digits marks_exponent no_digit_marks_exponent ds xs h,
+      after_first-digits marks_exponent no_digit_marks_exponent ds xs h,
+    ) refl
 
 exponent_in_no : (x : ℕ) (xs : List ℕ) → marks_exponent x ≡ false → exponent_in (x ∷ xs) ≡ exponent_in xs
 exponent_in_no x xs e = rw (list_any_no marks_exponent x xs e, after_first_no marks_exponent x xs e) refl
@@ -185,19 +184,19 @@ scan-digits : (word ds xs : List ℕ) → is_digits ds ≡ true →
     (after_first is_point (mantissa_of xs)) (exponent_in xs)
 scan-digits word ds xs h =
     let mantissa : mantissa_of (ds ++ xs) ≡ ds ++ mantissa_of xs =
-        before_first-digits marks_exponent no_digit_marks_exponent ds xs h in
+    before_first-digits marks_exponent no_digit_marks_exponent ds xs h in
     let whole : before_first is_point (ds ++ mantissa_of xs) ≡ ds ++ before_first is_point (mantissa_of xs) =
-        before_first-digits is_point no_digit_is_point ds (mantissa_of xs) h in
+    before_first-digits is_point no_digit_is_point ds (mantissa_of xs) h in
     let fraction : after_first is_point (ds ++ mantissa_of xs) ≡ after_first is_point (mantissa_of xs) =
-        after_first-digits is_point no_digit_is_point ds (mantissa_of xs) h in
+    after_first-digits is_point no_digit_is_point ds (mantissa_of xs) h in
     ap (λ (m : List ℕ). numeral_by word (before_first is_point m) (after_first is_point m) (exponent_in (ds ++ xs)))
-        mantissa
+    mantissa
     ∙ ap (λ (w : List ℕ). numeral_by word w (after_first is_point (ds ++ mantissa_of xs)) (exponent_in (ds ++ xs)))
-        whole
+    whole
     ∙ ap (λ (f : List ℕ). numeral_by word (ds ++ before_first is_point (mantissa_of xs)) f (exponent_in (ds ++ xs)))
-        fraction
+    fraction
     ∙ ap (numeral_by word (ds ++ before_first is_point (mantissa_of xs)) (after_first is_point (mantissa_of xs)))
-        (exponent_in-digits ds xs h)
+    (exponent_in-digits ds xs h)
 
 -- what the bytes behind the last digits say
 by_rest : (word whole fs xs : List ℕ) → is_digits whole ≡ true → is_digits fs ≡ true → StopsDigits xs →
@@ -207,18 +206,18 @@ by_rest word whole fs (x ∷ xs) w f stops =
     elim (cases_Bool (marks_exponent x)) [
       | inl e ↦
           (let none : fs ++ mantissa_of (x ∷ xs) ≡ fs =
-              ap (λ (l : List ℕ). fs ++ l) (before_first_yes marks_exponent x xs e) ∙ append-nil fs in
+          ap (λ (l : List ℕ). fs ++ l) (before_first_yes marks_exponent x xs e) ∙ append-nil fs in
           let exponent : exponent_behind (x ∷ xs) ≡ exponent_of xs = rw e refl in
           ap (λ (l : List ℕ). numeral_by word whole l (exponent_in (x ∷ xs))) none
           ∙ ap (numeral_by word whole fs) (exponent_in_yes x xs e ∙ sym exponent)
           ∙ by_digits word whole fs (exponent_behind (x ∷ xs)) w f)
       | inr e ↦
           (let more : fs ++ mantissa_of (x ∷ xs) ≡ fs ++ x ∷ mantissa_of xs =
-              ap (λ (l : List ℕ). fs ++ l) (before_first_no marks_exponent x xs e) in
+          ap (λ (l : List ℕ). fs ++ l) (before_first_no marks_exponent x xs e) in
           let exponent : exponent_behind (x ∷ xs) ≡ None = rw e refl in
           ap (λ (l : List ℕ). numeral_by word whole l (exponent_in (x ∷ xs))) more
           ∙ by_no_fraction word whole (fs ++ x ∷ mantissa_of xs) (exponent_in (x ∷ xs))
-              (not_digits fs x (mantissa_of xs) stops)
+          (not_digits fs x (mantissa_of xs) stops)
           ∙ sym (ap (numeral_or_none word whole fs) exponent ∙ no_exponent word whole fs))
     ]
 
@@ -230,19 +229,19 @@ scan_point word ds x xs h point =
     let plain = no_point_marks_exponent x point in
     let mantissa : mantissa_of (x ∷ xs) ≡ x ∷ mantissa_of xs = before_first_no marks_exponent x xs plain in
     let whole : ds ++ before_first is_point (x ∷ mantissa_of xs) ≡ ds =
-        ap (λ (l : List ℕ). ds ++ l) (before_first_yes is_point x (mantissa_of xs) point) ∙ append-nil ds in
+    ap (λ (l : List ℕ). ds ++ l) (before_first_yes is_point x (mantissa_of xs) point) ∙ append-nil ds in
     let fraction : after_first is_point (x ∷ mantissa_of xs) ≡ mantissa_of xs =
-        after_first_yes is_point x (mantissa_of xs) point in
+    after_first_yes is_point x (mantissa_of xs) point in
     let behind : mantissa_of xs ≡ leading xs ++ mantissa_of (past xs) =
     ap mantissa_of (split_leading xs) ∙ before_first-digits marks_exponent no_digit_marks_exponent (leading xs)
-        (past xs) (leading_are_digits xs)
+    (past xs) (leading_are_digits xs)
     in
     let exponent : exponent_in (x ∷ xs) ≡ exponent_in (past xs) =
     exponent_in_no x xs plain ∙ ap exponent_in (split_leading xs) ∙
-        exponent_in-digits (leading xs) (past xs) (leading_are_digits xs)
+    exponent_in-digits (leading xs) (past xs) (leading_are_digits xs)
     in
     ap (λ (m : List ℕ). numeral_by word (ds ++ before_first is_point m) (after_first is_point m) (exponent_in (x ∷ xs)))
-        mantissa
+    mantissa
     ∙ ap (λ (w : List ℕ). numeral_by word w (after_first is_point (x ∷ mantissa_of xs)) (exponent_in (x ∷ xs))) whole
     ∙ ap (λ (f : List ℕ). numeral_by word ds f (exponent_in (x ∷ xs))) (fraction ∙ behind)
     ∙ ap (numeral_by word ds (leading xs ++ mantissa_of (past xs))) exponent
@@ -255,7 +254,7 @@ scan_exponent : (word ds : List ℕ) (x : ℕ) (xs : List ℕ) → is_digits ds 
 scan_exponent word ds x xs h e =
     let exponent : exponent_behind (x ∷ xs) ≡ exponent_of xs = rw e refl in
     ap (λ (m : List ℕ). numeral_by word (ds ++ before_first is_point m) (after_first is_point m) (exponent_in (x ∷ xs)))
-        (before_first_yes marks_exponent x xs e)
+    (before_first_yes marks_exponent x xs e)
     ∙ ap (λ (w : List ℕ). numeral_by word w [] (exponent_in (x ∷ xs))) (append-nil ds)
     ∙ ap (numeral_by word ds []) (exponent_in_yes x xs e ∙ sym exponent)
     ∙ by_digits word ds [] (exponent_behind (x ∷ xs)) h refl
@@ -268,13 +267,13 @@ scan_other : (word ds : List ℕ) (x : ℕ) (xs : List ℕ) → is_ascii_digit x
 scan_other word ds x xs stops point e =
     let none : exponent_behind (x ∷ xs) ≡ None = rw e refl in
     let whole : before_first is_point (x ∷ mantissa_of xs) ≡ x ∷ before_first is_point (mantissa_of xs) =
-        before_first_no is_point x (mantissa_of xs) point in
+    before_first_no is_point x (mantissa_of xs) point in
     ap (λ (m : List ℕ). numeral_by word (ds ++ before_first is_point m) (after_first is_point m) (exponent_in (x ∷ xs)))
-        (before_first_no marks_exponent x xs e)
+    (before_first_no marks_exponent x xs e)
     ∙ ap (λ (w : List ℕ). numeral_by word (ds ++ w) (after_first is_point (x ∷ mantissa_of xs)) (exponent_in (x ∷ xs)))
-        whole
+    whole
     ∙ by_no_digits word (ds ++ x ∷ before_first is_point (mantissa_of xs)) (after_first is_point (x ∷ mantissa_of xs))
-        (exponent_in (x ∷ xs)) (not_digits ds x (before_first is_point (mantissa_of xs)) stops)
+    (exponent_in (x ∷ xs)) (not_digits ds x (before_first is_point (mantissa_of xs)) stops)
     ∙ sym (ap (numeral_or_none word ds []) none ∙ no_exponent word ds [])
 
 scan_rest : (word ds xs : List ℕ) → is_digits ds ≡ true → StopsDigits xs →
@@ -293,8 +292,8 @@ scan_rest word ds (x ∷ xs) h stops =
           (let digits : digits_behind (x ∷ xs) ≡ [] = rw point refl in
           let rest : rest_behind (x ∷ xs) ≡ x ∷ xs = rw point refl in
           let here : numeral_by word (ds ++ before_first is_point (mantissa_of (x ∷ xs)))
-              (after_first is_point (mantissa_of (x ∷ xs))) (exponent_in (x ∷ xs)) ≡ numeral_or_none word ds []
-              (exponent_behind (x ∷ xs)) =
+          (after_first is_point (mantissa_of (x ∷ xs))) (exponent_in (x ∷ xs)) ≡ numeral_or_none word ds []
+          (exponent_behind (x ∷ xs)) =
           elim (cases_Bool (marks_exponent x)) [
             | inl e ↦ scan_exponent word ds x xs h e
             | inr e ↦ scan_other word ds x xs stops point e

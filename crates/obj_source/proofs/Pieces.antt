@@ -1,8 +1,7 @@
 -- A piece of a text, taken in from mark to mark.
-use Rattle.std.proofs.Common.{
-  ◌≡◌, ℕ, ◌+◌, ◌-◌, ◌<◌, ◌≤◌, Bool, true, false, cond, ltb, List, [], ◌∷◌, ◌++◌, length, take, drop, get_or, Some, None,
-  refl, ap, sym, subst, ◌∙◌, append_assoc, length-append, arith,
-}
+use Rattle.std.proofs.Common.{◌≡◌, ℕ, ◌+◌, ◌-◌, ◌<◌, ◌≤◌, Bool, true, false, cond, ltb, List, [], ◌∷◌, ◌++◌, length}
+use Rattle.std.proofs.Common.{take, drop, get_or, Some, None, refl, ap, sym, subst, ◌∙◌, append_assoc, length-append}
+use Rattle.std.proofs.Common.{arith}
 use Rattle.std.specs.List.{All, position, position_or_len}
 use Rattle.std.proofs.lemmas.List.{append-nil, take-append-drop, drop_more, length-take, get_or-take, take_rest}
 use Rattle.std.proofs.lemmas.List.Quantifiers.{position-Some}
@@ -70,10 +69,10 @@ pub refused_before : (old mid : ObjScanner) (piece rest front behind : List ℕ)
 refused_before old mid piece rest front behind fault parted so_far refused scale text t =
     let whole : ((text ++ so_far.0) ++ front) ++ behind ≡ text ++ piece =
     append_assoc (text ++ so_far.0) front behind ∙ ap (λ l. (text ++ so_far.0) ++ l) (sym parted) ∙
-        append_assoc text so_far.0 rest ∙ ap (λ l. text ++ l) (sym so_far.1) in
+    append_assoc text so_far.0 rest ∙ ap (λ l. text ++ l) (sym so_far.1) in
     OnLineFault-weaker (IsFirstFault scale ((text ++ so_far.0) ++ front)) (IsFirstFault scale (text ++ piece))
     (λ f first. subst (λ l. IsFirstFault scale l f) whole
-        (IsFirstFault-more scale ((text ++ so_far.0) ++ front) behind f first)) fault
+    (IsFirstFault-more scale ((text ++ so_far.0) ++ front) behind f first)) fault
     (refused scale (text ++ so_far.0) (so_far.2 scale text t))
 
 -- where no byte passes a test, and where the first stands that does
@@ -110,7 +109,7 @@ pub TakenBefore-span : (old mid new : ObjScanner) (piece rest : List ℕ) (at : 
 TakenBefore-span old mid new piece rest at found so_far keeps =
     let there = position-Some (ends_token mid.state) rest at 0 (sym found) in
     TakenBefore-then old mid new piece rest (take at rest) (get_or rest at 0 ∷ drop (at + 1) rest)
-        (split_there rest at there.0) so_far
+    (split_there rest at there.0) so_far
     (λ scale text t. keeps scale text t (position-before (ends_token mid.state) rest at (sym found)))
 
 -- a rest as slicing gives it

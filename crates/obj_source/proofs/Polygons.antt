@@ -29,7 +29,7 @@ pub polygon_joined : (vertices : List Pt) (now before : List Tri) (line place : 
 polygon_joined vertices now before line place joined polygon word p more is_corner same =
     rw is_corner
     (after_corner (corners_of vertices (place + 1) more) line p (with_corners (mesh_of vertices now) joined)
-        (with_corners (mesh_of vertices before) polygon) same)
+    (with_corners (mesh_of vertices before) polygon) same)
 
 -- the first corner with a fault
 pub polygon_faulty : (vertices : List Pt) (now before : List Tri) (line place : ℕ) (polygon : FanState) (word : List ℕ)

@@ -1,8 +1,6 @@
 -- The number before the first `/` of a corner's word.
-use Rattle.std.proofs.Common.{
-  ◌≡◌, ◌≢◌, ℕ, ◌<◌, ◌≤◌, Bool, true, false, not, leb, List, length, take, get_or, MatchOption, inl, inr, refl, sym, ap,
-  arith,
-}
+use Rattle.std.proofs.Common.{◌≡◌, ◌≢◌, ℕ, ◌<◌, ◌≤◌, Bool, true, false, not, leb, List, length, take, get_or}
+use Rattle.std.proofs.Common.{MatchOption, inl, inr, refl, sym, ap, arith}
 use Rattle.std.proofs.lemmas.Grind.{common_steps}
 use Rattle.std.proofs.lemmas.Bool.{cases_lt, both_ways, eq-eqb, eqb-true, and_right, lt-leb, le-leb}
 use Rattle.std.proofs.lemmas.Bool.Decides.{nat_tests}
@@ -59,7 +57,7 @@ no_number_other bytes i here digits other bad =
     let past = slash_past bytes i here digits other in
     let within : i < length (before_first is_slash bytes) = rw length_before_slash past in
     let there : is_ascii_digit (get_or (before_first is_slash bytes) i 0) ≡ false =
-        rw (get_or-take (position_or_len is_slash bytes) bytes i 0 past) bad in
+    rw (get_or-take (position_or_len is_slash bytes) bytes i 0 past) bad in
     rw (list_all_at is_ascii_digit (before_first is_slash bytes) i 0 within there) refl
 
 pub no_number_long : (bytes : List ℕ) (i : ℕ) → i < length bytes →

@@ -1,8 +1,6 @@
 -- The CR at the end of a word, found by its last byte.
-use Rattle.std.proofs.Common.{
-  ◌≡◌, ◌≢◌, ℕ, ◌-◌, Bool, true, false, eqb, List, [], ◌∷◌, length, take, get_or, Option, Some, None, arith, ap, sym,
-  ◌∙◌, refl,
-}
+use Rattle.std.proofs.Common.{◌≡◌, ◌≢◌, ℕ, ◌-◌, Bool, true, false, eqb, List, [], ◌∷◌, length, take, get_or, Option}
+use Rattle.std.proofs.Common.{Some, None, arith, ap, sym, ◌∙◌, refl}
 use Rattle.std.specs.Option.{option_eq, option_copied}
 use Rattle.std.specs.List.{slice_get}
 use Rattle.std.proofs.lemmas.Option.{get_or_from_slice_get, slice_get-get_or}
@@ -31,7 +29,7 @@ without_return-dropped (Some x) byte [] cr found e = absurd (cc)
 without_return-dropped (Some x) byte (b ∷ rest) cr found e =
     let last = get_or_from_slice_get (b ∷ rest) (length (b ∷ rest) - 1) x.now 0 (sym found) in
     let here : get_or (b ∷ rest) (length rest) 0 ≡ 13 =
-        ap (λ n. get_or (b ∷ rest) n 0) (sym (before_last b rest)) ∙ last ∙ eqb-true x.now byte.now e ∙ cr in
+    ap (λ n. get_or (b ∷ rest) n 0) (sym (before_last b rest)) ∙ last ∙ eqb-true x.now byte.now e ∙ cr in
     without_return-yes (b ∷ rest) (length rest) refl here ∙ ap (λ n. take n (b ∷ rest)) (sym (before_last b rest))
 
 -- and else nothing is
@@ -45,6 +43,6 @@ without_return-kept None byte (b ∷ rest) cr found e =
 without_return-kept (Some x) byte (b ∷ rest) cr found e =
     let last = get_or_from_slice_get (b ∷ rest) (length (b ∷ rest) - 1) x.now 0 (sym found) in
     let same : get_or (b ∷ rest) (length rest) 0 ≡ x.now =
-        ap (λ n. get_or (b ∷ rest) n 0) (sym (before_last b rest)) ∙ last in
+    ap (λ n. get_or (b ∷ rest) n 0) (sym (before_last b rest)) ∙ last in
     let here : get_or (b ∷ rest) (length rest) 0 ≢ 13 = λ is. differ x.now byte.now e (sym same ∙ is ∙ sym cr) in
     without_return-no (b ∷ rest) (length rest) refl here

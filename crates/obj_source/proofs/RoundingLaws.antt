@@ -1,8 +1,6 @@
 -- Steps rounded to whole ones, by their sizes.
-use Rattle.std.proofs.Common.{
-  ◌≡◌, ℕ, zero, suc, ◌+◌, ◌-◌, ◌*◌, ◌/◌, ◌^◌, ◌<◌, ◌≤◌, Bool, true, false, ◌&&◌, leb, ℤ, pos, negsuc, neg_ℤ, ◌+ℤ◌, ◌-ℤ◌,
-  ◌*ℤ◌, ◌<ℤ◌, ◌≤ℤ◌, Ok, Err, refl, sym, ap, ◌∙◌, arith,
-}
+use Rattle.std.proofs.Common.{◌≡◌, ℕ, zero, suc, ◌+◌, ◌-◌, ◌*◌, ◌/◌, ◌^◌, ◌<◌, ◌≤◌, Bool, true, false, ◌&&◌, leb, ℤ}
+use Rattle.std.proofs.Common.{pos, negsuc, neg_ℤ, ◌+ℤ◌, ◌-ℤ◌, ◌*ℤ◌, ◌<ℤ◌, ◌≤ℤ◌, Ok, Err, refl, sym, ap, ◌∙◌, arith}
 use Rattle.std.proofs.lemmas.Int.{ints}
 use mir.Val.{bool_byte}
 use Rattle.geom_core.proofs.FloorLaws.{floor_div-is}
@@ -78,7 +76,7 @@ below_half n d b h = div-eq_of_lt (omega arith)
 nearest_zero : (is_negative : Bool) (n d : ℕ) → 2 * n < d → nearest (signed is_negative n) d ≡ pos 0
 nearest_zero is_negative n d h =
     sym (nearest_signed is_negative n d (omega arith)) ∙
-        zero_signed is_negative _ (below_half n d (bool_byte is_negative) h)
+    zero_signed is_negative _ (below_half n d (bool_byte is_negative) h)
 
 pub times_low_power : (is_negative : Bool) (n : ℕ) (power : ℤ) → power <ℤ negsuc 22 → n < 2 ^ 76 →
     times_power (signed is_negative n) power ≡ pos 0
@@ -152,4 +150,4 @@ pub coordinate_from_far : (scale : ℕ) (is_negative : Bool) (digits behind : �
     coordinate_from scale is_negative digits behind exponent ≡ Ok (pos 0)
 coordinate_from_far scale is_negative digits behind exponent few coarse high far =
     rw (times_low_power is_negative (digits * scale) (exponent -ℤ pos behind) (omega (arith, ints))
-        (steps_small digits scale few coarse)) refl
+    (steps_small digits scale few coarse)) refl

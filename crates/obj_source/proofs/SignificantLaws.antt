@@ -1,16 +1,13 @@
 -- The significant digits of a numeral, digit by digit, and the number that the first 18 of them write.
-use Rattle.std.proofs.Common.{
-  ◌≡◌, ◌≢◌, ℕ, suc, ◌+◌, ◌-◌, ◌*◌, ◌<◌, ◌≤◌, Bool, true, false, ◌||◌, eqb, ltb, List, [], ◌∷◌, ◌++◌, length, take, drop,
-  get_or, inl, inr, refl, sym, ap, ◌∙◌, arith,
-}
+use Rattle.std.proofs.Common.{◌≡◌, ◌≢◌, ℕ, suc, ◌+◌, ◌-◌, ◌*◌, ◌<◌, ◌≤◌, Bool, true, false, ◌||◌, eqb, ltb, List, []}
+use Rattle.std.proofs.Common.{◌∷◌, ◌++◌, length, take, drop, get_or, inl, inr, refl, sym, ap, ◌∙◌, arith}
 use mir.Val.{bool_byte}
 use Rattle.std.proofs.lemmas.Bool.{eq-eqb, ne_eqb, cases_eq, lt-ltb}
 use Rattle.std.proofs.lemmas.Bool.Decides.{nat_tests}
 use Rattle.std.proofs.lemmas.Grind.{common_steps}
 use Rattle.std.proofs.lemmas.Int.Digits.{digits_value_push}
-use Rattle.std.proofs.lemmas.List.{
-  take_all, take-append-le, length_push, nil_from_length, take_more, append_assoc, length-drop, length-append,
-}
+use Rattle.std.proofs.lemmas.List.{take_all, take-append-le, length_push, nil_from_length, take_more, append_assoc}
+use Rattle.std.proofs.lemmas.List.{length-drop, length-append}
 use Rattle.std.specs.Char.{is_ascii_digit, digit_value}
 use Rattle.std.specs.List.{prefix_len}
 use Rattle.std.specs.Str.Parse.{digits_value}
@@ -75,10 +72,10 @@ AreCounted_more value count digit ds some room small h =
     let more = significant_more ds c (omega (arith, h.1)) in
     let longer = length_push (significant ds) c in
     let all : value ≡ digits_value 10 (significant ds) =
-        h.0 ∙ ap (digits_value 10) (take_all 18 (significant ds) (omega (arith, h.1))) in
+    h.0 ∙ ap (digits_value 10) (take_all 18 (significant ds) (omega (arith, h.1))) in
     let push = digits_value_push 10 (significant ds) c in
     let step : value * 10 + digit ≡ digits_value 10 (significant ds ++ c ∷ []) =
-        omega (arith, push, all, digit_value_is digit small) in (
+    omega (arith, push, all, digit_value_is digit small) in (
       step ∙ ap (digits_value 10) (sym (take_all 18 (significant ds ++ c ∷ []) (omega (arith, h.1, longer))) ∙
           ap (take 18) (sym more)),
       rw more (omega (arith, h.1, longer)),
@@ -93,7 +90,7 @@ pub AreCounted_first : (value count digit : ℕ) (ds : List ℕ) → count ≡ 0
 AreCounted_first value count digit ds none some small h =
     let c : ℕ = 48 + digit in
     let first : significant (ds ++ c ∷ []) ≡ c ∷ [] =
-        significant_first ds c (omega (arith, h.1)) ∙ significant_other c [] (omega arith) in
+    significant_first ds c (omega (arith, h.1)) ∙ significant_other c [] (omega arith) in
     let start = none_value value count ds none h in
     let one : digits_value 10 (c ∷ []) ≡ digit = omega (arith, digit_value_is digit small) in
     (rw first (omega (arith, start, one)), rw first (omega arith))
@@ -103,7 +100,7 @@ pub AreCounted_zero : (value count digit : ℕ) (ds : List ℕ) → count ≡ 0 
 AreCounted_zero value count digit ds none zero h =
     let c : ℕ = 48 + digit in
     let first : significant (ds ++ c ∷ []) ≡ [] =
-        significant_first ds c (omega (arith, h.1)) ∙ significant_zero c [] (omega arith) in
+    significant_first ds c (omega (arith, h.1)) ∙ significant_zero c [] (omega arith) in
     let start = none_value value count ds none h in
     (rw first (omega (arith, start)), rw first (omega arith))
 
@@ -114,7 +111,7 @@ AreCounted_next value count digit is_significant ds room small test h =
     elim (cases_eq count 0) [
       | inr some ↦
           (let yes : is_significant ≡ true = test ∙
-              ap (λ (b : Bool). b || ltb 0 digit) (lt-ltb 0 count (omega arith)) in
+          ap (λ (b : Bool). b || ltb 0 digit) (lt-ltb 0 count (omega arith)) in
           rw yes (AreCounted_more value count digit ds (omega arith) room small h))
       | inl none ↦ elim (cases_eq digit 0) [
         | inr some ↦

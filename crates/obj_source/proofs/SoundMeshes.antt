@@ -1,19 +1,16 @@
 -- The triangles of a mesh are grid triangles, whatever the text.
-use Rattle.std.proofs.Common.{
-  ◌≡◌, ℕ, zero, suc, ◌+◌, ◌≤◌, Bool, true, false, cond, eqb, leb, ltb, ◌&&◌, List, [], ◌∷◌, length, drop, length-append,
-  ℤ, Option, Some, None, option_map, Result, Ok, Err, refl, subst, arith,
-}
+use Rattle.std.proofs.Common.{◌≡◌, ℕ, zero, suc, ◌+◌, ◌≤◌, Bool, true, false, cond, eqb, leb, ltb, ◌&&◌, List, [], ◌∷◌}
+use Rattle.std.proofs.Common.{length, drop, length-append, ℤ, Option, Some, None, option_map, Result, Ok, Err, refl}
+use Rattle.std.proofs.Common.{subst, arith}
 use Rattle.std.specs.Bool.{IsTrue}
 use Rattle.std.specs.List.{All, slice_get, filter}
 use Rattle.std.proofs.lemmas.Bool.{leb-true}
-use Rattle.std.proofs.lemmas.List.Elements.{
-  All-nil, All-cons, All-head, All-tail, All-push, All-append, All-filter, filter_passes,
-}
+use Rattle.std.proofs.lemmas.List.Elements.{All-nil, All-cons, All-head, All-tail, All-push, All-append, All-filter}
+use Rattle.std.proofs.lemmas.List.Elements.{filter_passes}
 use Rattle.std.proofs.lemmas.Option.{get_or_from_slice_get, slice_get_within}
 use Rattle.geom_core.specs.declared.limits.TheConstants.{MAX_OBJ_BYTES, MAX_TRIANGLES}
-use Rattle.geom_core.specs.Limits.{
-  has_distinct_corners, is_grid_coordinate, IsGridCoordinate, IsGridPoint, IsGridTriangle, AreGridTriangles,
-}
+use Rattle.geom_core.specs.Limits.{has_distinct_corners, is_grid_coordinate, IsGridCoordinate, IsGridPoint}
+use Rattle.geom_core.specs.Limits.{IsGridTriangle, AreGridTriangles}
 use Rattle.geom_core.specs.declared.points.Pt.{Pt}
 use Rattle.geom_core.specs.declared.triangles.Tri.{Tri}
 use Rattle.obj_source.specs.declared.faults.ObjFault.{ObjFault}
@@ -23,13 +20,11 @@ use Rattle.obj_source.specs.declared.faults.ObjWhy.TheVariants.{ShortFace, BadCo
 use Rattle.obj_source.specs.declared.numbers.NumberWhy.{NumberWhy}
 use Rattle.obj_source.specs.declared.numbers.NumberWhy.TheVariants.{Bad, Range}
 use Rattle.obj_source.specs.Lines.{lines_of, words_of}
-use Rattle.obj_source.specs.Numerals.{
-  Numeral, numeral_of, is_short, scaled, in_grid, coordinate_in, coordinate_of, has_minus,
-}
-use Rattle.obj_source.specs.Mesh.{
-  ◌>>=◌, number_at, coordinate_at, vertex_of, vertex_named, named_or, corner_of, corners_of, fan, face_of, MeshSoFar,
-  nothing, with_vertex, with_triangles, at_line, begins_with, with_line, read_lines, some_triangles, mesh,
-}
+use Rattle.obj_source.specs.Numerals.{Numeral, numeral_of, is_short, scaled, in_grid, coordinate_in, coordinate_of}
+use Rattle.obj_source.specs.Numerals.{has_minus}
+use Rattle.obj_source.specs.Mesh.{◌>>=◌, number_at, coordinate_at, vertex_of, vertex_named, named_or, corner_of}
+use Rattle.obj_source.specs.Mesh.{corners_of, fan, face_of, MeshSoFar, nothing, with_vertex, with_triangles, at_line}
+use Rattle.obj_source.specs.Mesh.{begins_with, with_line, read_lines, some_triangles, mesh}
 
 same_ok : {A F : Type 0} (x y : A) → ◌≡◌ {A = Result A F} (Ok x) (Ok y) → x ≡ y
 same_ok x y e = cc
@@ -171,7 +166,7 @@ pub face_is_source : (vertices : List Pt) (words : List (List ℕ)) (tris : List
 unfolding face_of
 face_is_source vertices words tris all e =
     let points =
-        both_ok (corners_of vertices 1 (drop 1 words)) _ tris (refused_ok (ltb (length words) 4) ShortFace _ tris e) in
+    both_ok (corners_of vertices 1 (drop 1 words)) _ tris (refused_ok (ltb (length words) 4) ShortFace _ tris e) in
     subst (All IsGridTriangle) (same_ok _ tris points.2)
     (distinct_are_source (fan points.0)
     (fan_all IsGridPoint points.0 (corners_of_all IsGridPoint vertices 1 (drop 1 words) points.0 all points.1)))
@@ -220,7 +215,7 @@ vertex_line_sound scale mesh_so_far more line words sound e =
     let p = both_ok (at_line line (vertex_of scale words)) _ more e in
     subst IsSound (same_ok _ more p.2)
     (with_vertex_sound mesh_so_far p.0 sound
-        (vertex_is_source scale words p.0 (said_ok line (vertex_of scale words) p.0 p.1)))
+    (vertex_is_source scale words p.0 (said_ok line (vertex_of scale words) p.0 p.1)))
 
 face_line_sound : (mesh_so_far more : MeshSoFar) (line : ℕ) (words : List (List ℕ)) → IsSound mesh_so_far →
     (at_line line (face_of mesh_so_far.vertices words) >>= with_triangles mesh_so_far) ≡ Ok more → IsSound more
@@ -228,7 +223,7 @@ face_line_sound mesh_so_far more line words sound e =
     let tris = both_ok (at_line line (face_of mesh_so_far.vertices words)) (with_triangles mesh_so_far) more e in
     with_triangles_sound mesh_so_far more tris.0 sound
     (face_is_source mesh_so_far.vertices words tris.0 sound.vertices
-        (said_ok line (face_of mesh_so_far.vertices words) tris.0 tris.1)) tris.2
+    (said_ok line (face_of mesh_so_far.vertices words) tris.0 tris.1)) tris.2
 
 by_kind : (is_vertex is_face : Bool) (vertex face other : Result MeshSoFar ObjFault) (more : MeshSoFar) →
     cond is_vertex vertex (cond is_face face other) ≡ Ok more → (vertex ≡ Ok more → IsSound more) →
@@ -254,7 +249,7 @@ read_lines_sound scale mesh_so_far more line [] sound e = subst IsSound (same_ok
 read_lines_sound scale mesh_so_far more line (first ∷ rest) sound e =
     let next = both_ok (with_line scale mesh_so_far line (words_of first)) _ more e in
     read_lines_sound scale next.0 more (line + 1) rest
-        (with_line_sound scale mesh_so_far next.0 line (words_of first) sound next.1) next.2
+    (with_line_sound scale mesh_so_far next.0 line (words_of first) sound next.1) next.2
 
 -- a count that is not refused as 0
 some_counted : (count : ℕ) (tris all : List Tri) → cond (eqb count 0) (Err Empty) (Ok all) ≡ Ok tris → 1 ≤ count
@@ -277,7 +272,7 @@ whole_sound : (scale : ℕ) (lines : List (List ℕ)) (tris : List Tri) →
 whole_sound scale lines tris e =
     let mesh_so_far = both_ok (read_lines scale nothing 1 lines) some_triangles tris e in
     some_triangles_sound mesh_so_far.0 tris (read_lines_sound scale nothing mesh_so_far.0 1 lines nothing_sound
-        mesh_so_far.1) mesh_so_far.2
+    mesh_so_far.1) mesh_so_far.2
 
 -- a text that is too long has no triangles
 never_ok : (read : Result MeshSoFar ObjFault) (tris : List Tri) →

@@ -1,8 +1,6 @@
 -- How a builder goes on standing for its line, word by word.
-use Rattle.std.proofs.Common.{
-  ◌≡◌, ◌≤◌, ◌==◌, ℕ, ◌+◌, Option, Err, Result, Ok, false, append-nil, arith, length, List, [], ◌∷◌, ◌++◌, refl, sym, ap,
-  ◌∙◌, append_assoc,
-}
+use Rattle.std.proofs.Common.{◌≡◌, ◌≤◌, ◌==◌, ℕ, ◌+◌, Option, Err, Result, Ok, false, append-nil, arith, length, List}
+use Rattle.std.proofs.Common.{[], ◌∷◌, ◌++◌, refl, sym, ap, ◌∙◌, append_assoc}
 use Rattle.geom_core.specs.declared.points.Pt.{Pt}
 use Rattle.obj_source.specs.declared.mesh_builder.MeshBuilder.{MeshBuilder}
 use Rattle.obj_source.specs.declared.faults.ObjFault.{ObjFault}

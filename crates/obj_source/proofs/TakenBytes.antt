@@ -1,8 +1,6 @@
 -- The bytes of a text that were taken in, and some more.
-use Rattle.std.proofs.Common.{
-  ◌≡◌, ◌≢◌, ℕ, ◌+◌, ◌≤◌, true, false, eqb, List, [], ◌∷◌, ◌++◌, length, get_or, Result, Ok, Err, refl, ap, sym, subst,
-  ◌∙◌, length-append, arith,
-}
+use Rattle.std.proofs.Common.{◌≡◌, ◌≢◌, ℕ, ◌+◌, ◌≤◌, true, false, eqb, List, [], ◌∷◌, ◌++◌, length, get_or, Result, Ok}
+use Rattle.std.proofs.Common.{Err, refl, ap, sym, subst, ◌∙◌, length-append, arith}
 use Rattle.std.specs.List.{All}
 use Rattle.std.specs.Result.{MatchResult, OnOk, IfErr}
 use Rattle.std.proofs.lemmas.List.Elements.{All-nil, All-cons}
@@ -18,13 +16,10 @@ use Rattle.obj_source.specs.declared.obj_scanner.ObjScanner.{ObjScanner}
 use Rattle.obj_source.specs.Builder.{so_far}
 use Rattle.obj_source.specs.Lines.{is_blank, is_line_feed, words_of}
 use Rattle.obj_source.specs.Mesh.{MeshSoFar, mesh, some_triangles, with_line, ◌>>=◌}
-use Rattle.obj_source.specs.Scanner.{
-  parts_words, ends_word, ends_token, kept, StandsOn, StandsAt, LineRead, LineJudged, IsReady, HasTaken, IsFirstFault,
-  OnLineFault, RefusedAtEnd,
-}
-use Rattle.obj_source.proofs.LineSteps.{
-  LineRead-cases, LineRead-blank, LineRead-hash, LineRead-passed, LineRead-span, LineRead-long, WordsRead-nil,
-}
+use Rattle.obj_source.specs.Scanner.{parts_words, ends_word, ends_token, kept, StandsOn, StandsAt, LineRead, LineJudged}
+use Rattle.obj_source.specs.Scanner.{IsReady, HasTaken, IsFirstFault, OnLineFault, RefusedAtEnd}
+use Rattle.obj_source.proofs.LineSteps.{LineRead-cases, LineRead-blank, LineRead-hash, LineRead-passed, LineRead-span}
+use Rattle.obj_source.proofs.LineSteps.{LineRead-long, WordsRead-nil}
 use Rattle.obj_source.proofs.LineWords.{IsInside, or-left, or-right}
 use Rattle.obj_source.proofs.TextLines.{IsOneLine, LinesRead-span, LinesRead-feed, IsFirstFault-feed, mesh-last}
 
@@ -69,10 +64,13 @@ HasTaken-blank old new b ends blank scale text t = record {
   words = rw ends.3 (LineRead-cases old.state old.builder scale t.mesh_so_far t.line t.begun old.word.items
       (LineRead new.state new.builder [] scale t.mesh_so_far t.line (t.begun ++ b ∷ [])) t.words
       (λ words stands so_far. LineRead-blank new.state new.builder scale t.mesh_so_far t.line t.begun old.word.items
-          words b (ends.0 scale t.mesh_so_far t.line words stands) so_far blank)
+      words b (ends.0 scale t.mesh_so_far t.line words stands) so_far blank)
       (λ passed over. let same = ends.1 over.0 in
-      rw (same.1, same.0, passed) (refl, (LineRead-passed old.builder scale t.mesh_so_far t.line t.begun old.word.items
-          (b ∷ []) over).1)));
+      rw (same.1, same.0, passed) (
+        refl,
+        (LineRead-passed old.builder scale t.mesh_so_far t.line t.begun old.word.items
+            (b ∷ []) over).1,
+      )));
   ready =
       IsReady-more new.builder _ _ _ _ (ends.2 (length text + 1) (length text) t.ready)
       (omega (arith, length-append text (b ∷ []))) (omega (arith, length-append text (b ∷ [])));
@@ -90,10 +88,13 @@ HasTaken-hash old mid new ends builder word part scale text t = record {
       rw (word, part, builder) (LineRead-cases old.state old.builder scale t.mesh_so_far t.line t.begun old.word.items
       (LineRead Skipping mid.builder [] scale t.mesh_so_far t.line (t.begun ++ 35 ∷ [])) t.words
       (λ words stands so_far. LineRead-hash mid.state mid.builder scale t.mesh_so_far t.line t.begun old.word.items
-          words (ends.0 scale t.mesh_so_far t.line words stands) so_far)
+      words (ends.0 scale t.mesh_so_far t.line words stands) so_far)
       (λ passed over. let same = ends.1 over.0 in
-      rw same.0 (refl, (LineRead-passed old.builder scale t.mesh_so_far t.line t.begun old.word.items
-          (35 ∷ []) over).1)));
+      rw same.0 (
+        refl,
+        (LineRead-passed old.builder scale t.mesh_so_far t.line t.begun old.word.items
+            (35 ∷ []) over).1,
+      )));
   ready =
       rw builder (IsReady-more mid.builder _ _ _ _ (ends.2 (length text + 1) (length text) t.ready)
       (omega (arith, length-append text (35 ∷ []))) (omega (arith, length-append text (35 ∷ []))));
@@ -147,7 +148,7 @@ pub refused_feed : (old new : ObjScanner) (result : Result (Unit {0}) ObjFault) 
 refused_feed old new (Ok done) ends = tt
 refused_feed old new (Err fault) ends = λ scale text t.
     OnLineFault-weaker (λ f. with_line scale t.mesh_so_far t.line (words_of t.begun) ≡ Err f)
-        (IsFirstFault scale (text ++ 10 ∷ []))
+    (IsFirstFault scale (text ++ 10 ∷ []))
     (λ f judged. IsFirstFault-feed scale text t.mesh_so_far t.line t.begun f t.lines judged) fault
     (ends.0 scale t.mesh_so_far t.line t.begun t.words)
 
@@ -199,8 +200,8 @@ HasTaken-passed old span passed scale text t none = record {
       subst (λ (p : ScanState). LineRead p old.builder old.word.items scale t.mesh_so_far t.line (t.begun ++ span))
       (sym passed)
       (LineRead-passed old.builder scale t.mesh_so_far t.line t.begun old.word.items span
-          (subst (λ (p : ScanState). LineRead p old.builder old.word.items scale t.mesh_so_far t.line t.begun) passed
-          t.words));
+      (subst (λ (p : ScanState). LineRead p old.builder old.word.items scale t.mesh_so_far t.line t.begun) passed
+      t.words));
   ready = IsReady-span old.builder text span t.ready;
 }
 
@@ -216,8 +217,8 @@ pub HasTaken-long : (old new : ObjScanner) (span : List ℕ) → old.state ≡ F
 HasTaken-long old new span first long stands ready word part scale text t none =
     let inner = no_end span (subst (λ (p : ScanState). All (λ b. ends_token p b ≡ false) span) first none) in
     let read =
-        subst (λ (p : ScanState). LineRead p old.builder old.word.items scale t.mesh_so_far t.line t.begun) first
-        t.words in record {
+    subst (λ (p : ScanState). LineRead p old.builder old.word.items scale t.mesh_so_far t.line t.begun) first
+    t.words in record {
       mesh_so_far = t.mesh_so_far;
       line = t.line;
       begun = t.begun ++ span;
@@ -251,9 +252,9 @@ pub refused_at_end : (scanner : ObjScanner) (scale : ℕ) (text : List ℕ) (fau
     RefusedAtEnd scale text fault
 refused_at_end scanner scale text fault t short refused =
     refused_end scale text fault (OnLineFault-weaker
-        (λ f. with_line scale t.mesh_so_far t.line (words_of t.begun) ≡ Err f) (λ f. mesh scale text ≡ Err f)
+    (λ f. with_line scale t.mesh_so_far t.line (words_of t.begun) ≡ Err f) (λ f. mesh scale text ≡ Err f)
     (λ f judged. mesh-last scale text t.mesh_so_far t.line t.begun short t.lines ∙
-        ap (λ r. (r >>= (λ more. Ok more)) >>= some_triangles) judged) fault refused)
+    ap (λ r. (r >>= (λ more. Ok more)) >>= some_triangles) judged) fault refused)
 
 pub empty_at_end : (mesh_so_far : MeshSoFar) → length mesh_so_far.triangles ≡ 0 → some_triangles mesh_so_far ≡ Err Empty
 empty_at_end mesh_so_far none = let e : eqb (length mesh_so_far.triangles) 0 ≡ true = grind (arith, nat_tests) in rw e

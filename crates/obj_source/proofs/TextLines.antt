@@ -1,8 +1,6 @@
 -- The lines of a text, one after another.
-use Rattle.std.proofs.Common.{
-  ◌≡◌, ℕ, suc, ◌+◌, ◌-◌, ◌≤◌, ◌<◌, true, false, leb, List, [], ◌∷◌, ◌++◌, length, take, Result, Ok, Err, refl, ap, sym,
-  inl, inr, ◌∙◌, append_assoc, length-append, arith,
-}
+use Rattle.std.proofs.Common.{◌≡◌, ℕ, suc, ◌+◌, ◌-◌, ◌≤◌, ◌<◌, true, false, leb, List, [], ◌∷◌, ◌++◌, length, take}
+use Rattle.std.proofs.Common.{Result, Ok, Err, refl, ap, sym, inl, inr, ◌∙◌, append_assoc, length-append, arith}
 use Rattle.std.specs.List.{All}
 use Rattle.std.proofs.lemmas.List.{append-nil, take-append-le}
 use Rattle.std.proofs.lemmas.List.Elements.{All-nil, All-append}
@@ -114,7 +112,7 @@ mesh-fault scale text rest fault short first =
       | inl long ↦
           mesh-long scale (text ++ rest) long
           ∙ ap (λ t. read_lines scale nothing 1 (ended_lines t) >>= (λ mesh_so_far. Err TooLong))
-              (take_over MAX_OBJ_BYTES text rest short)
+          (take_over MAX_OBJ_BYTES text rest short)
           ∙ ap too_long_after (first.ended (take (MAX_OBJ_BYTES - length text) rest))
       | inr short ↦
           mesh-short scale (text ++ rest) short

@@ -1,8 +1,6 @@
 -- What an open line comes to with the words that follow.
-use Rattle.std.specs.Prelude.{
-  nat_lt, ℕ, ℤ, ◌+◌, List, ◌∷◌, length, filter, Option, Some, None, option_map, slice_get, Result, Ok, Err,
-  if◌then◌else◌,
-}
+use Rattle.std.specs.Prelude.{nat_lt, ℕ, ℤ, ◌+◌, List, ◌∷◌, length, filter, Option, Some, None, option_map, slice_get}
+use Rattle.std.specs.Prelude.{Result, Ok, Err, if◌then◌else◌}
 use Rattle.geom_core.specs.Limits.{has_distinct_corners}
 use Rattle.geom_core.specs.declared.points.Pt.{Pt}
 use Rattle.obj_source.specs.declared.faults.ObjFault.{ObjFault}
@@ -18,9 +16,8 @@ use Rattle.obj_source.specs.declared.line_state.CornersRead.TheVariants as read
 use Rattle.obj_source.specs.declared.line_state.Face.{Face}
 use Rattle.obj_source.specs.declared.line_state.LineState.{LineState}
 use Rattle.obj_source.specs.declared.line_state.LineState.TheVariants as state
-use Rattle.obj_source.specs.Mesh.{
-  MeshSoFar, ◌>>=◌, number_at, corners_of, fan, with_vertex, with_triangles, with_line, at_line,
-}
+use Rattle.obj_source.specs.Mesh.{MeshSoFar, ◌>>=◌, number_at, corners_of, fan, with_vertex, with_triangles, with_line}
+use Rattle.obj_source.specs.Mesh.{at_line}
 use Rattle.obj_source.specs.Numerals.{coordinate_of}
 
 -- the number of the word at a place behind those that came

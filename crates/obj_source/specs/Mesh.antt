@@ -1,9 +1,8 @@
 -- The triangles of an OBJ text, or its first fault (Wavefront OBJ): `v` lines are vertices, `f` lines are
 -- polygons over the vertices that stand above, and every other line is passed over.
-use Rattle.std.specs.Prelude.{
-  Bool, false, ◌&&◌, ◌==◌, nat_lt, nat_le, ℕ, ℤ, ◌+◌, ◌-◌, List, [], ◌∷◌, ◌++◌, length, take, drop, filter, slice_index,
-  Option, Some, None, option_map, slice_get, Result, Ok, Err, if◌then◌else◌,
-}
+use Rattle.std.specs.Prelude.{Bool, false, ◌&&◌, ◌==◌, nat_lt, nat_le, ℕ, ℤ, ◌+◌, ◌-◌, List, [], ◌∷◌, ◌++◌, length}
+use Rattle.std.specs.Prelude.{take, drop, filter, slice_index, Option, Some, None, option_map, slice_get, Result, Ok}
+use Rattle.std.specs.Prelude.{Err, if◌then◌else◌}
 use Rattle.std.specs.List.{before_first}
 use Rattle.std.specs.Str.Parse.{digits_value}
 use Rattle.geom_core.specs.declared.limits.TheConstants.{MAX_OBJ_BYTES, MAX_TRIANGLES}
@@ -13,9 +12,8 @@ use Rattle.geom_core.specs.declared.triangles.Tri.{Tri}
 use Rattle.obj_source.specs.declared.faults.ObjFault.{ObjFault}
 use Rattle.obj_source.specs.declared.faults.ObjFault.TheVariants.{Line, TooMany, TooLong, Empty}
 use Rattle.obj_source.specs.declared.faults.ObjWhy.{ObjWhy}
-use Rattle.obj_source.specs.declared.faults.ObjWhy.TheVariants.{
-  BadNumber, OutOfRange, BadCorner, NoSuchVertex, ShortFace,
-}
+use Rattle.obj_source.specs.declared.faults.ObjWhy.TheVariants.{BadNumber, OutOfRange, BadCorner, NoSuchVertex}
+use Rattle.obj_source.specs.declared.faults.ObjWhy.TheVariants.{ShortFace}
 use Rattle.obj_source.specs.declared.numbers.NumberWhy.{NumberWhy}
 use Rattle.obj_source.specs.declared.numbers.NumberWhy.TheVariants.{Bad, Range}
 use Rattle.obj_source.specs.Lines.{lines_of, words_of}
@@ -125,7 +123,7 @@ unfoldable pub with_line : ℕ → MeshSoFar → ℕ → List (List ℕ) → Res
 with_line scale mesh_so_far line words =
     if begins_with 118 words then (at_line line (vertex_of scale words) >>= (λ p. Ok (with_vertex mesh_so_far p)))
     else (if begins_with 102 words then (at_line line
-        (face_of mesh_so_far.vertices words) >>= with_triangles mesh_so_far)
+    (face_of mesh_so_far.vertices words) >>= with_triangles mesh_so_far)
     else Ok mesh_so_far)
 
 -- the lines in order, the first of which has this number, each over what those before it gave

@@ -1,9 +1,8 @@
 -- Numerals, and the coordinate that each gives: digits with at most one point, and a power of ten; times the
 -- scale, rounded to the nearest whole number, halves up.
-use Rattle.std.specs.Prelude.{
-  Bool, false, ◌&&◌, ◌||◌, ◌==◌, nat_lt, nat_le, ℕ, suc, ℤ, pos, negsuc, neg_ℤ, ◌+◌, ◌-◌, ◌*◌, ◌^◌, ◌+ℤ◌, ◌-ℤ◌, ◌*ℤ◌,
-  List, [], ◌∷◌, ◌++◌, length, take, drop, Option, Some, None, option_map, Result, Ok, Err, if◌then◌else◌,
-}
+use Rattle.std.specs.Prelude.{Bool, false, ◌&&◌, ◌||◌, ◌==◌, nat_lt, nat_le, ℕ, suc, ℤ, pos, negsuc, neg_ℤ, ◌+◌, ◌-◌}
+use Rattle.std.specs.Prelude.{◌*◌, ◌^◌, ◌+ℤ◌, ◌-ℤ◌, ◌*ℤ◌, List, [], ◌∷◌, ◌++◌, length, take, drop, Option, Some, None}
+use Rattle.std.specs.Prelude.{option_map, Result, Ok, Err, if◌then◌else◌}
 use Rattle.std.specs.Char.{is_ascii_digit}
 use Rattle.std.specs.List.{list_all, list_any, before_first, after_first, prefix_len}
 use Rattle.std.specs.Str.Parse.{digits_value}
@@ -68,8 +67,12 @@ numeral_of word =
     let whole = before_first is_point mantissa in
     let fraction = after_first is_point mantissa in
     if is_digits whole && is_digits fraction && nat_lt 0 (length whole + length fraction)
-    then option_map (λ exponent. record { is_negative = has_minus word; whole = whole; fraction = fraction; exponent =
-        exponent })
+    then option_map (λ exponent. record {
+      is_negative = has_minus word;
+      whole = whole;
+      fraction = fraction;
+      exponent = exponent;
+    })
     (exponent_in rest)
     else None
 

@@ -1,7 +1,6 @@
 -- What the reading of a source came to.
-use Rattle.std.specs.Prelude.{
-  ◌≡◌, ◌≤◌, ◌⊎◌, ℕ, ◌+◌, List, ◌++◌, length, take, drop, Option, Some, None, option_map, Result, Ok, Err,
-}
+use Rattle.std.specs.Prelude.{◌≡◌, ◌≤◌, ◌⊎◌, ℕ, ◌+◌, List, ◌++◌, length, take, drop, Option, Some, None, option_map}
+use Rattle.std.specs.Prelude.{Result, Ok, Err}
 use Rattle.geom_core.specs.declared.limits.TheConstants.{MAX_OBJ_BYTES, READ_BYTES}
 use Rattle.geom_core.specs.declared.triangles.Tri.{Tri}
 use Rattle.span_io.specs.Faults.{Rose}

@@ -1,16 +1,13 @@
 -- A word read from the left: its digits, the digits behind its point, its exponent, and the number that they give.
-use Rattle.std.specs.Prelude.{
-  ◌≡◌, Bool, ◌&&◌, nat_lt, nat_le, ℕ, ℤ, pos, ◌*◌, ◌-ℤ◌, List, [], ◌∷◌, length, take, drop, Option, Some, None, Result,
-  Err, if◌then◌else◌,
-}
+use Rattle.std.specs.Prelude.{◌≡◌, Bool, ◌&&◌, nat_lt, nat_le, ℕ, ℤ, pos, ◌*◌, ◌-ℤ◌, List, [], ◌∷◌, length, take, drop}
+use Rattle.std.specs.Prelude.{Option, Some, None, Result, Err, if◌then◌else◌}
 use Rattle.std.specs.Char.{is_ascii_digit}
 use Rattle.std.specs.List.{prefix_len}
 use Rattle.std.specs.Str.Parse.{digits_value}
 use Rattle.obj_source.specs.declared.numbers.NumberWhy.{NumberWhy}
 use Rattle.obj_source.specs.declared.numbers.NumberWhy.TheVariants.{Bad}
-use Rattle.obj_source.specs.Numerals.{
-  is_digits, is_point, marks_exponent, exponent_of, significant, signed, times_power, in_grid, coordinate_of,
-}
+use Rattle.obj_source.specs.Numerals.{is_digits, is_point, marks_exponent, exponent_of, significant, signed}
+use Rattle.obj_source.specs.Numerals.{times_power, in_grid, coordinate_of}
 
 -- of these digits so many are significant, and the first 18 of those write this value
 abbrev pub AreCounted : ℕ → ℕ → List ℕ → Type 0

@@ -1,12 +1,10 @@
 -- The bytes of clusters: how many there are, and one triangle or cluster more.
-use Rattle.std.proofs.Common.{
-  ◌≡◌, ℕ, ◌+◌, ◌*◌, ◌<◌, ◌≤◌, List, [], ◌∷◌, ◌++◌, length, get_or, take, drop, refl, ap, ◌∙◌, arith,
-}
+use Rattle.std.proofs.Common.{◌≡◌, ℕ, ◌+◌, ◌*◌, ◌<◌, ◌≤◌, List, [], ◌∷◌, ◌++◌, length, get_or, take, drop, refl, ap}
+use Rattle.std.proofs.Common.{◌∙◌, arith}
 use Rattle.std.specs.List.{flat_map}
 use Rattle.std.proofs.lemmas.Grind.{flat_map-append}
-use Rattle.std.proofs.lemmas.List.{
-  append_assoc, append-nil, length-append, length-drop, length-take-le, take_more, drop_more,
-}
+use Rattle.std.proofs.lemmas.List.{append_assoc, append-nil, length-append, length-drop, length-take-le, take_more}
+use Rattle.std.proofs.lemmas.List.{drop_more}
 use Rattle.std.proofs.lemmas.Slice.{take-put_mid}
 use borrow.Rule.Slice.PartMut.{put_mid}
 use Rattle.geom_core.specs.declared.triangles.Tagged.{Tagged}
@@ -22,8 +20,12 @@ pub length-cluster_bytes : (tris : List Tagged) → length (cluster_bytes tris) 
 unfolding cluster_bytes
 length-cluster_bytes [] = refl
 length-cluster_bytes (t ∷ tris) =
-    omega (arith, length-append (triangle_bytes t) (flat_map triangle_bytes tris), length-triangle_bytes t,
-        length-cluster_bytes tris)
+    omega (
+      arith,
+      length-append (triangle_bytes t) (flat_map triangle_bytes tris),
+      length-triangle_bytes t,
+      length-cluster_bytes tris,
+    )
 
 -- one item more is spelt
 pub flat_map-more : {X Y : Type 0} (f : X → List Y) (xs : List X) (i : ℕ) (d : X) → i < length xs →
@@ -47,11 +49,17 @@ pub written-more : (front done part into : List ℕ) (end k next : ℕ) → end 
     → take end into ≡ front ++ done → take next (put_mid end k into part) ≡ front ++ (done ++ part)
 written-more front done part into end k next sum len within written =
     take-put_mid end k into part next (omega arith) within ∙ ap (λ xs. xs ++ part) written ∙
-        append_assoc front done part
+    append_assoc front done part
 
 -- a written part changes no length
 pub length-put_mid : {X : Type 0} (a k : ℕ) (xs ys : List X) → a + k ≤ length xs → length ys ≡ k →
     length (put_mid a k xs ys) ≡ length xs
 length-put_mid a k xs ys room len =
-    omega (arith, length-append (take a xs) (ys ++ drop k (drop a xs)), length-append ys (drop k (drop a xs)),
-        length-take-le a xs (omega arith), length-drop k (drop a xs), length-drop a xs)
+    omega (
+      arith,
+      length-append (take a xs) (ys ++ drop k (drop a xs)),
+      length-append ys (drop k (drop a xs)),
+      length-take-le a xs (omega arith),
+      length-drop k (drop a xs),
+      length-drop a xs,
+    )

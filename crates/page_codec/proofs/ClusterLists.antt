@@ -11,7 +11,7 @@ pub clusters_of-step : (heads : Heads) (clusters : List ℕ) (i c n : ℕ) (rest
     (items pushed whole : List PageCluster) (x : PageCluster)
     → i < length clusters → c ≡ get_or clusters i 0 → n ≡ (cluster_at heads c).tris
     → x ≡ record { number = c; tris = triangles_of n rest } → back ≡ drop (TRIANGLE_BYTES * n) rest →
-        pushed ≡ items ++ (x ∷ [])
+    pushed ≡ items ++ (x ∷ [])
     → items ++ clusters_of heads (drop i clusters) rest ≡ whole
     → pushed ++ clusters_of heads (drop (i + 1) clusters) back ≡ whole
 clusters_of-step heads clusters i c n rest back items pushed whole x below at size is behind push all =

@@ -1,8 +1,6 @@
 -- A directory without a break is what the directory that it reads as spells.
-use Rattle.std.proofs.Common.{
-  ◌≡◌, ℕ, zero, suc, ◌+◌, ◌*◌, Bool, true, false, cond, eqb, leb, Some, None, List, [], ◌++◌, length, get_or, take,
-  drop, refl, sym, ap, ◌∙◌, arith,
-}
+use Rattle.std.proofs.Common.{◌≡◌, ℕ, zero, suc, ◌+◌, ◌*◌, Bool, true, false, cond, eqb, leb, Some, None, List, []}
+use Rattle.std.proofs.Common.{◌++◌, length, get_or, take, drop, refl, sym, ap, ◌∙◌, arith}
 use Rattle.std.specs.List.{flat_map}
 use Rattle.std.specs.Int.{w32}
 use Rattle.std.proofs.lemmas.Bool.Decides.{nat_tests}
@@ -12,10 +10,8 @@ use Rattle.std.proofs.Math.Seq.{take-add}
 use Rattle.dag_core.specs.declared.counts.Counts.{Counts}
 use Rattle.dag_core.specs.Ranges.{is_error, is_group_box, is_page, are_members}
 use Rattle.page_codec.specs.Numbers.{numbers_of, numbers_bytes, records, IsBytes}
-use Rattle.page_codec.specs.Records.{
-  terminal_number, maker_number, group_numbers, group_from, group_bytes, group_of, head_numbers, head_from, head_bytes,
-  head_of,
-}
+use Rattle.page_codec.specs.Records.{terminal_number, maker_number, group_numbers, group_from, group_bytes, group_of}
+use Rattle.page_codec.specs.Records.{head_numbers, head_from, head_bytes, head_of}
 use Rattle.page_codec.specs.Breaks.{unless, breaks_in, group_rules, head_rules, directory_breaks, first_directory_break}
 use Rattle.page_codec.specs.Reading.{digest_of, directory_of}
 use Rattle.page_codec.specs.Spelling.{digest_bytes, directory_bytes, directory_length}
@@ -48,8 +44,8 @@ terminal-kept counts ns none =
     let four = unless (is_page counts (group_from ns).page) 4 in
     let five = unless (are_members counts (group_from ns).first (group_from ns).count) 5 in
     kept-unless (leb (get_or ns 1 0) 1) 2 (nil-right one two
-        (nil-left (one ++ two) three (nil-left ((one ++ two) ++ three) four
-        (nil-left (((one ++ two) ++ three) ++ four) five none))))
+    (nil-left (one ++ two) three (nil-left ((one ++ two) ++ three) four
+    (nil-left (((one ++ two) ++ three) ++ four) five none))))
 
 group_numbers-read : (ns : List ℕ) → length ns ≡ 11 → Are32 ns → leb (get_or ns 1 0) 1 ≡ true →
     group_numbers (group_from ns) ≡ ns
@@ -75,7 +71,7 @@ pub group_bytes-read : (counts : Counts) (b : List ℕ) → length b ≡ 44 → 
     group_rules counts (numbers_of 11 b) ≡ [] → group_bytes (group_of b) ≡ b
 group_bytes-read counts b len are none =
     ap numbers_bytes (group_numbers-read (numbers_of 11 b) (length-numbers 11 b) (numbers-small 11 b are)
-        (terminal-kept counts (numbers_of 11 b) none))
+    (terminal-kept counts (numbers_of 11 b) none))
     ∙ numbers_bytes-read 11 b (omega arith) are
 
 -- a cluster's record is that of the cluster that it reads as
@@ -100,17 +96,17 @@ directory_bytes-read counts bytes size are found =
     let none = none-first (groups ++ heads) (sym found) in
     let first : flat_map group_bytes (records group_of 44 counts.groups bytes) ≡ take g bytes =
     spelt-records group_of group_bytes 44 (λ b. group_rules counts (numbers_of 11 b))
-        (λ b len are good. group_bytes-read counts b len are good)
+    (λ b len are good. group_bytes-read counts b len are good)
     counts.groups 0 bytes (omega arith) are (nil-left groups heads none) in
     let second : flat_map head_bytes (records head_of 8 counts.clusters (drop g bytes)) ≡ take c (drop g bytes) =
     spelt-records head_of head_bytes 8 (λ b. head_rules counts (head_of b))
-        (λ b len are good. head_bytes-read b len are)
+    (λ b len are good. head_bytes-read b len are)
     counts.clusters g (drop g bytes) (omega (arith, length-drop g bytes)) (IsBytes-drop g bytes are)
-        (nil-right groups heads none) in
+    (nil-right groups heads none) in
     let third : flat_map digest_bytes (records digest_of 32 counts.pages (drop (g + c) bytes)) ≡ take p
-        (drop (g + c) bytes) =
+    (drop (g + c) bytes) =
     spelt-records digest_of digest_bytes 32 (λ b. []) (λ b len are good. refl)
     counts.pages 0 (drop (g + c) bytes) (omega (arith, length-drop (g + c) bytes)) (IsBytes-drop (g + c) bytes are)
-        (no-rules 32 counts.pages 0 (drop (g + c) bytes)) in
+    (no-rules 32 counts.pages 0 (drop (g + c) bytes)) in
     rw (first, second, third, ← take-add g c bytes, ← take-add (g + c) p bytes)
-        (take_all (g + c + p) bytes (omega arith))
+    (take_all (g + c + p) bytes (omega arith))

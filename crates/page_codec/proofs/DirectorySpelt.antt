@@ -1,8 +1,6 @@
 -- A directory that fits breaks no rule as it is spelt, and reads back.
-use Rattle.std.proofs.Common.{
-  ◌≡◌, ℕ, ◌+◌, ◌*◌, ◌<◌, ◌≤◌, Bool, true, false, ◌&&◌, eqb, leb, Option, Some, None, List, [], ◌∷◌, ◌++◌, length,
-  get_or, drop, refl, sym, ap, ◌∙◌, arith,
-}
+use Rattle.std.proofs.Common.{◌≡◌, ℕ, ◌+◌, ◌*◌, ◌<◌, ◌≤◌, Bool, true, false, ◌&&◌, eqb, leb, Option, Some, None, List}
+use Rattle.std.proofs.Common.{[], ◌∷◌, ◌++◌, length, get_or, drop, refl, sym, ap, ◌∙◌, arith}
 use Rattle.std.specs.List.{All, flat_map}
 use Rattle.std.proofs.lemmas.Bool.Decides.{nat_tests}
 use Rattle.std.proofs.lemmas.List.{append-nil, append_assoc, length-append, drop_at}
@@ -14,15 +12,12 @@ use Rattle.geom_core.specs.Boxes.{is_under}
 use Rattle.dag_core.specs.declared.counts.Counts.{Counts}
 use Rattle.dag_core.specs.declared.groups.Group.{Group}
 use Rattle.dag_core.specs.declared.cluster_heads.ClusterHead.{ClusterHead}
-use Rattle.dag_core.specs.Ranges.{
-  AreCountsInRange, counts_of, is_group_box, is_group_or_none, IsGroupInRange, IsClusterInRange,
-}
+use Rattle.dag_core.specs.Ranges.{AreCountsInRange, counts_of, is_group_box, is_group_or_none, IsGroupInRange}
+use Rattle.dag_core.specs.Ranges.{IsClusterInRange}
 use Rattle.page_codec.specs.declared.directories.Directory.{Directory}
 use Rattle.page_codec.specs.Numbers.{records, numbers_of}
-use Rattle.page_codec.specs.Records.{
-  terminal_number, maker_number, maker_from, group_numbers, group_from, group_bytes, group_of, head_numbers, head_from,
-  head_bytes, head_of,
-}
+use Rattle.page_codec.specs.Records.{terminal_number, maker_number, maker_from, group_numbers, group_from, group_bytes}
+use Rattle.page_codec.specs.Records.{group_of, head_numbers, head_from, head_bytes, head_of}
 use Rattle.page_codec.specs.Breaks.{breaks_in, group_rules, head_rules, directory_breaks, first_directory_break}
 use Rattle.page_codec.specs.Fits.{FitsDirectory}
 use Rattle.page_codec.specs.Reading.{digest_of, directory_of}
@@ -56,8 +51,11 @@ axes-of : (p : Pt) → is_grid_point p ≡ true → Axes p
 axes-of p grid =
     let g = is_grid_coordinate in
     let xy = and-left (g p.x && g p.y) (g p.z) grid in
-    record { x = and-left (g p.x) (g p.y) xy; y = and-right (g p.x) (g p.y) xy; z =
-        and-right (g p.x && g p.y) (g p.z) grid }
+    record {
+      x = and-left (g p.x) (g p.y) xy;
+      y = and-right (g p.x) (g p.y) xy;
+      z = and-right (g p.x && g p.y) (g p.z) grid;
+    }
 
 low-of : (box : Cube) → is_group_box box ≡ true → Axes box.lo
 low-of box is =
@@ -92,10 +90,10 @@ group-fits counts group bounds is =
     let page : group.page < counts.pages = let h = is.page in grind (arith, nat_tests) in
     let one = and-left (leb 1 group.count && leb group.count 8) (leb group.first counts.clusters) is.members in
     let first : group.first ≤ counts.clusters =
-        let h = and-right (leb 1 group.count && leb group.count 8) (leb group.first counts.clusters) is.members in grind
-        (arith, nat_tests) in
+    let h = and-right (leb 1 group.count && leb group.count 8) (leb group.first counts.clusters) is.members in grind
+    (arith, nat_tests) in
     let count : group.count ≤ 8 =
-        let h = and-right (leb 1 group.count) (leb group.count 8) one in grind (arith, nat_tests) in
+    let h = and-right (leb 1 group.count) (leb group.count 8) one in grind (arith, nat_tests) in
     All-from_recursion Is32 (group_numbers group) (
       omega (arith, error),
       (
@@ -112,8 +110,13 @@ group-fits counts group bounds is =
                   coordinate-fits group.cube.hi.y hi.y,
                   (
                     coordinate-fits group.cube.hi.z hi.z,
-                    (omega (arith, page, bounds.pages), (omega (arith, first, bounds.clusters),
-                        (omega (arith, count), tt))),
+                    (
+                      omega (arith, page, bounds.pages),
+                      (
+                        omega (arith, first, bounds.clusters),
+                        (omega (arith, count), tt),
+                      ),
+                    ),
                   ),
                 ),
               ),
@@ -146,7 +149,7 @@ numbers-group : (counts : Counts) (group : Group) → Bounds counts → IsGroupI
     numbers_of 11 (group_bytes group) ≡ group_numbers group
 numbers-group counts group bounds is =
     ap (λ n. numbers_of n (group_bytes group)) (sym (length-group_numbers group)) ∙
-        numbers_of-spelt (group_numbers group) (group-fits counts group bounds is)
+    numbers_of-spelt (group_numbers group) (group-fits counts group bounds is)
 
 -- a group reads back, and breaks no rule
 pub group_of-spelt : (counts : Counts) (group : Group) → Bounds counts → IsGroupInRange counts group →
@@ -161,8 +164,16 @@ pub group_rules-spelt : (counts : Counts) (group : Group) → Bounds counts → 
     group_rules counts (numbers_of 11 (group_bytes group)) ≡ []
 unfolding group_rules
 group_rules-spelt counts group bounds is =
-    rw (numbers-group counts group bounds is, group-back group is.box, second group, is.error,
-        terminal-test group.terminal, is.box, is.page, is.members) refl
+    rw (
+      numbers-group counts group bounds is,
+      group-back group is.box,
+      second group,
+      is.error,
+      terminal-test group.terminal,
+      is.box,
+      is.page,
+      is.members,
+    ) refl
 
 -- a cluster's numbers fit
 maker-fits : (counts : Counts) (made : Option ℕ) → Bounds counts → is_group_or_none counts made ≡ true →
@@ -185,7 +196,7 @@ head-fits : (counts : Counts) (head : ClusterHead) → Bounds counts → IsClust
 unfolding head_numbers
 head-fits counts head bounds is =
     let size : head.tris ≤ 128 =
-        let h = and-right (leb 1 head.tris) (leb head.tris 128) is.size in grind (arith, nat_tests) in
+    let h = and-right (leb 1 head.tris) (leb head.tris 128) is.size in grind (arith, nat_tests) in
     All-from_recursion Is32 (head_numbers head) (maker-fits counts head.made bounds is.maker, (omega (arith, size), tt))
 
 pub head_of-spelt : (counts : Counts) (head : ClusterHead) → Bounds counts → IsClusterInRange counts head →
@@ -193,7 +204,7 @@ pub head_of-spelt : (counts : Counts) (head : ClusterHead) → Bounds counts →
 unfolding head_numbers head_from
 head_of-spelt counts head bounds is =
     ap head_from (numbers_of-spelt (head_numbers head) (head-fits counts head bounds is)) ∙
-        rw (maker-back counts head.made bounds is.maker) refl
+    rw (maker-back counts head.made bounds is.maker) refl
 
 pub head_rules-spelt : (counts : Counts) (head : ClusterHead) → Bounds counts → IsClusterInRange counts head →
     head_rules counts (head_of (head_bytes head)) ≡ []
@@ -211,14 +222,22 @@ length-head_bytes head = length-numbers_bytes (head_numbers head)
 pub length-groups : (groups : List Group) → length (flat_map group_bytes groups) ≡ 44 * length groups
 length-groups [] = refl
 length-groups (group ∷ groups) =
-    omega (arith, length-append (group_bytes group) (flat_map group_bytes groups), length-group_bytes group,
-    length-groups groups)
+    omega (
+      arith,
+      length-append (group_bytes group) (flat_map group_bytes groups),
+      length-group_bytes group,
+      length-groups groups,
+    )
 
 pub length-heads : (heads : List ClusterHead) → length (flat_map head_bytes heads) ≡ 8 * length heads
 length-heads [] = refl
 length-heads (head ∷ heads) =
-    omega (arith, length-append (head_bytes head) (flat_map head_bytes heads), length-head_bytes head,
-    length-heads heads)
+    omega (
+      arith,
+      length-append (head_bytes head) (flat_map head_bytes heads),
+      length-head_bytes head,
+      length-heads heads,
+    )
 
 -- a directory reads back
 pub directory_of-spelt : (directory : Directory) → FitsDirectory directory →
@@ -232,24 +251,28 @@ directory_of-spelt directory fits =
     let digests = flat_map digest_bytes directory.digests in
     let whole = append_assoc groups heads digests in
     let first : records group_of 44 (length directory.heads.groups)
-        (groups ++ (heads ++ digests)) ≡ directory.heads.groups =
+    (groups ++ (heads ++ digests)) ≡ directory.heads.groups =
     records-spelt group_of group_bytes 44 (IsGroupInRange counts) (λ x is. length-group_bytes x)
-        (λ x is. group_of-spelt counts x bounds is) directory.heads.groups (heads ++ digests) fits.heads.groups in
+    (λ x is. group_of-spelt counts x bounds is) directory.heads.groups (heads ++ digests) fits.heads.groups in
     let after : drop (44 * length directory.heads.groups) (groups ++ (heads ++ digests)) ≡ heads ++ digests =
-        drop_at groups (heads ++ digests) (44 * length directory.heads.groups) (length-groups directory.heads.groups) in
+    drop_at groups (heads ++ digests) (44 * length directory.heads.groups) (length-groups directory.heads.groups) in
     let next : records head_of 8 (length directory.heads.clusters) (heads ++ digests) ≡ directory.heads.clusters =
     records-spelt head_of head_bytes 8 (IsClusterInRange counts) (λ x is. length-head_bytes x)
-        (λ x is. head_of-spelt counts x bounds is) directory.heads.clusters digests fits.heads.clusters in
+    (λ x is. head_of-spelt counts x bounds is) directory.heads.clusters digests fits.heads.clusters in
     let end : drop (44 * length directory.heads.groups + 8 * length directory.heads.clusters)
-        ((groups ++ heads) ++ digests) ≡ digests =
+    ((groups ++ heads) ++ digests) ≡ digests =
     drop_at (groups ++ heads) digests (44 * length directory.heads.groups + 8 * length directory.heads.clusters)
-    (omega (arith, length-append groups heads, length-groups directory.heads.groups,
-        length-heads directory.heads.clusters)) in
+    (omega (
+      arith,
+      length-append groups heads,
+      length-groups directory.heads.groups,
+      length-heads directory.heads.clusters,
+    )) in
     let last : records digest_of 32 directory.heads.pages digests ≡ directory.digests =
     ap (λ n. records digest_of 32 n digests) (sym fits.digest_count) ∙
-        ap (records digest_of 32 (length directory.digests)) (sym (append-nil digests))
+    ap (records digest_of 32 (length directory.digests)) (sym (append-nil digests))
     ∙ records-spelt digest_of digest_bytes 32 (λ digest. length digest.bytes ≡ 32) (λ x is. is)
-        (λ x is. refl) directory.digests [] fits.digests in
+    (λ x is. refl) directory.digests [] fits.digests in
     rw (end, last, whole, first, after, next) refl
 
 -- and breaks no rule
@@ -264,15 +287,15 @@ first_directory_break-spelt directory fits =
     let digests = flat_map digest_bytes directory.digests in
     let whole = append_assoc groups heads digests in
     let first : breaks_in (λ b. group_rules counts (numbers_of 11 b)) 44 0 (length directory.heads.groups)
-        (groups ++ (heads ++ digests)) ≡ [] =
+    (groups ++ (heads ++ digests)) ≡ [] =
     breaks_in-spelt group_bytes 44 (λ b. group_rules counts (numbers_of 11 b)) (IsGroupInRange counts)
-        (λ x is. length-group_bytes x) (λ x is. group_rules-spelt counts x bounds is) directory.heads.groups 0
-        (heads ++ digests) fits.heads.groups in
+    (λ x is. length-group_bytes x) (λ x is. group_rules-spelt counts x bounds is) directory.heads.groups 0
+    (heads ++ digests) fits.heads.groups in
     let after : drop (44 * length directory.heads.groups) (groups ++ (heads ++ digests)) ≡ heads ++ digests =
-        drop_at groups (heads ++ digests) (44 * length directory.heads.groups) (length-groups directory.heads.groups) in
+    drop_at groups (heads ++ digests) (44 * length directory.heads.groups) (length-groups directory.heads.groups) in
     let next : breaks_in (λ b. head_rules counts (head_of b)) 8 (44 * length directory.heads.groups)
-        (length directory.heads.clusters) (heads ++ digests) ≡ [] =
+    (length directory.heads.clusters) (heads ++ digests) ≡ [] =
     breaks_in-spelt head_bytes 8 (λ b. head_rules counts (head_of b)) (IsClusterInRange counts)
-        (λ x is. length-head_bytes x) (λ x is. head_rules-spelt counts x bounds is) directory.heads.clusters
-        (44 * length directory.heads.groups) digests fits.heads.clusters in
+    (λ x is. length-head_bytes x) (λ x is. head_rules-spelt counts x bounds is) directory.heads.clusters
+    (44 * length directory.heads.groups) digests fits.heads.clusters in
     rw (whole, first, after, next) refl

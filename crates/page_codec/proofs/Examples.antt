@@ -7,18 +7,14 @@ use Rattle.geom_core.specs.Limits.{has_distinct_corners}
 use Rattle.dag_core.specs.declared.counts.Counts.{Counts}
 use Rattle.dag_core.specs.Members.{home}
 use Rattle.dag_core.specs.Ranges.{counts_of}
-use Rattle.dag_core.proofs.TwoSquares.{
-  left, sourced, corner_a, corner_b, middle, two_squares, two_squares_heads, leaf_of_four, made_of_two,
-}
+use Rattle.dag_core.proofs.TwoSquares.{left, sourced, corner_a, corner_b, middle, two_squares, two_squares_heads}
+use Rattle.dag_core.proofs.TwoSquares.{leaf_of_four, made_of_two}
 use Rattle.page_codec.specs.declared.breaks.Break.{Break}
-use Rattle.page_codec.specs.Breaks.{
-  first_of, triangle_rules, tail_breaks, page_breaks, group_rules, head_rules, directory_breaks,
-}
+use Rattle.page_codec.specs.Breaks.{first_of, triangle_rules, tail_breaks, page_breaks, group_rules, head_rules}
+use Rattle.page_codec.specs.Breaks.{directory_breaks}
 use Rattle.page_codec.specs.Numbers.{numbers_bytes, numbers_of}
-use Rattle.page_codec.specs.Records.{
-  triangle_numbers, triangle_from, triangle_bytes, group_numbers, group_from, group_bytes, head_numbers, head_from,
-  head_bytes,
-}
+use Rattle.page_codec.specs.Records.{triangle_numbers, triangle_from, triangle_bytes, group_numbers, group_from}
+use Rattle.page_codec.specs.Records.{group_bytes, head_numbers, head_from, head_bytes}
 use Rattle.page_codec.specs.Spelling.{cluster_bytes, tail_bytes, page_bytes_in, page_in, counts_bytes, magic, page_at}
 
 -- ---- what is spelt
@@ -116,7 +112,7 @@ pub group_bounds : rules_with 0 2147483647 ∷ rules_with 0 2147483648 ∷ rules
     ∷ rules_with 5 1048576 ∷ rules_with 5 1048577 ∷ rules_with 8 2 ∷ rules_with 8 3 ∷ rules_with 9 4 ∷ rules_with 9 5
     ∷ rules_with 10 8 ∷ rules_with 10 9 ∷ rules_with 10 0 ∷ []
     ≡ keeps ∷ (1 ∷ []) ∷ keeps ∷ (2 ∷ []) ∷ keeps ∷ (3 ∷ []) ∷ keeps ∷ (3 ∷ []) ∷ keeps ∷ (4 ∷ []) ∷ keeps ∷
-        (5 ∷ []) ∷ keeps ∷ (5 ∷ []) ∷ (5 ∷ []) ∷ []
+    (5 ∷ []) ∷ keeps ∷ (5 ∷ []) ∷ (5 ∷ []) ∷ []
 unfolding group_numbers group_from group_rules is_under
 group_bounds = refl
 

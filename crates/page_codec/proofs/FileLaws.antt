@@ -1,16 +1,13 @@
 -- The parts of a laid-out DAG's file read back what the DAG holds.
-use Rattle.std.proofs.Common.{
-  ◌≡◌, ℕ, zero, suc, ◌+◌, ◌-◌, ◌*◌, ◌<◌, ◌≤◌, List, [], ◌∷◌, ◌++◌, length, map, replicate, take, drop, refl, sym, ap,
-  ◌∙◌, subst, inl, inr, leb, arith,
-}
+use Rattle.std.proofs.Common.{◌≡◌, ℕ, zero, suc, ◌+◌, ◌-◌, ◌*◌, ◌<◌, ◌≤◌, List, [], ◌∷◌, ◌++◌, length, map, replicate}
+use Rattle.std.proofs.Common.{take, drop, refl, sym, ap, ◌∙◌, subst, inl, inr, leb, arith}
 use Rattle.std.specs.List.{All, flat_map, range_with_len}
 use Rattle.std.proofs.Math.Nat.{mul-suc}
 use Rattle.std.proofs.Math.Seq.{drop-append-add}
 use Rattle.std.proofs.lemmas.Bool.{cases_lt}
 use Rattle.std.proofs.lemmas.Bool.Decides.{nat_tests}
-use Rattle.std.proofs.lemmas.List.{
-  append_assoc, get_or_past, length-append, length-replicate, take_all, take_at, drop_at,
-}
+use Rattle.std.proofs.lemmas.List.{append_assoc, get_or_past, length-append, length-replicate, take_all, take_at}
+use Rattle.std.proofs.lemmas.List.{drop_at}
 use Rattle.std.proofs.lemmas.List.Elements.{All-nil, All-cons, All-head, All-tail, All-from_recursion}
 use Rattle.std.proofs.lemmas.List.FromFn.{length-map-range_with_len}
 use Rattle.sha2.proofs.Facts256.{length-sha256}
@@ -31,11 +28,9 @@ use Rattle.page_codec.specs.Fits.{FitsPage, FitsDirectory}
 use Rattle.page_codec.specs.Numbers.{numbers_of}
 use Rattle.page_codec.specs.Reading.{page_of, directory_of, header_of}
 use Rattle.page_codec.specs.Records.{group_bytes, head_bytes}
-use Rattle.page_codec.specs.Spelling.{
-  digest_bytes, page_cluster, page_in, page_bytes, page_digest, tail_bytes, clusters_bytes, directory_bytes,
-  directory_length, directory_in, counts_numbers, counts_bytes, header_bytes, header_in, directory_digest, file_bytes,
-  page_at,
-}
+use Rattle.page_codec.specs.Spelling.{digest_bytes, page_cluster, page_in, page_bytes, page_digest, tail_bytes}
+use Rattle.page_codec.specs.Spelling.{clusters_bytes, directory_bytes, directory_length, directory_in, counts_numbers}
+use Rattle.page_codec.specs.Spelling.{counts_bytes, header_bytes, header_in, directory_digest, file_bytes, page_at}
 use Rattle.page_codec.proofs.DirectorySpelt.{directory_of-spelt, length-groups, length-heads}
 use Rattle.page_codec.proofs.NumberLaws.{Is32, numbers_of-spelt, length-numbers_bytes}
 use Rattle.page_codec.proofs.PageBytes.{bytes_of-groups, length-groups-le, length-tris_at}
@@ -54,7 +49,7 @@ counts-in dag laid [] =
     All-nil (λ (cluster : PageCluster). length cluster.tris ≡ (cluster_at dag.heads cluster.number).tris)
 counts-in dag laid (c ∷ cs) =
     All-cons (λ cluster. length cluster.tris ≡ (cluster_at dag.heads cluster.number).tris) (page_cluster dag c)
-        (map (page_cluster dag) cs) (length-tris_at dag laid.counts c) (counts-in dag laid cs)
+    (map (page_cluster dag) cs) (length-tris_at dag laid.counts c) (counts-in dag laid cs)
 
 sourced-at : (dag : Dag) → IsLaidOut dag → (c : ℕ) → All (IsSourcedTriangle dag.heads.sources) (tris_at dag c)
 sourced-at dag laid c =
@@ -69,7 +64,7 @@ sourced-in : (dag : Dag) → IsLaidOut dag → (cs : List ℕ) →
 sourced-in dag laid [] = All-nil (λ (cluster : PageCluster). All (IsSourcedTriangle dag.heads.sources) cluster.tris)
 sourced-in dag laid (c ∷ cs) =
     All-cons (λ cluster. All (IsSourcedTriangle dag.heads.sources) cluster.tris) (page_cluster dag c)
-        (map (page_cluster dag) cs) (sourced-at dag laid c) (sourced-in dag laid cs)
+    (map (page_cluster dag) cs) (sourced-at dag laid c) (sourced-in dag laid cs)
 
 -- a DAG's page fits its heads
 pub FitsPage-in : (dag : Dag) → IsLaidOut dag → (p : ℕ) → FitsPage dag.heads (page_in dag p)
@@ -94,7 +89,7 @@ pub page_of-in : (dag : Dag) → IsLaidOut dag → (p : ℕ) →
 page_of-in dag laid p =
     ap (λ n. page_of dag.heads n (page_bytes (page_in dag p))) (sym (number-in dag p))
     ∙ page_of-spelt dag.heads (page_in dag p) (sources-le (counts_of dag.heads) laid.range.counts)
-        (FitsPage-in dag laid p)
+    (FitsPage-in dag laid p)
 
 length-filled : (body : List ℕ) (len : ℕ) → length body ≤ len → length (body ++ replicate (len - length body) 0) ≡ len
 length-filled body len room =
@@ -107,7 +102,7 @@ unfolding page_bytes tail_bytes
 length-page_bytes dag laid p below =
     let most = length-groups-le dag laid.rules laid.counts p below in
     length-filled (clusters_bytes (page_in dag p).clusters) PAGE_BYTES
-        (omega (arith, most, ap length (bytes_of-groups dag laid.rules p)))
+    (omega (arith, most, ap length (bytes_of-groups dag laid.rules p)))
 
 -- ---- the directory of a DAG
 
@@ -116,8 +111,8 @@ digests-in : (dag : Dag) (a n : ℕ) → All (λ digest. length digest.bytes ≡
 digests-in dag a zero = All-nil (λ (digest : Digest32). length digest.bytes ≡ 32)
 digests-in dag a (suc n) =
     All-cons (λ (digest : Digest32). length digest.bytes ≡ 32) (page_digest dag a)
-        (map (page_digest dag) (range_with_len (a + 1) n)) (length-sha256 (page_bytes (page_in dag a)))
-        (digests-in dag (a + 1) n)
+    (map (page_digest dag) (range_with_len (a + 1) n)) (length-sha256 (page_bytes (page_in dag a)))
+    (digests-in dag (a + 1) n)
 
 pub FitsDirectory-in : (dag : Dag) → IsLaidOut dag → FitsDirectory (directory_in dag)
 unfolding directory_in
@@ -136,8 +131,12 @@ length-digests : (digests : List Digest32) → All (λ digest. length digest.byt
 length-digests [] sized = refl
 length-digests (digest ∷ digests) sized =
     let P : Digest32 → Type 0 = λ digest. length digest.bytes ≡ 32 in
-    omega (arith, length-append digest.bytes (flat_map digest_bytes digests), All-head P digest digests sized,
-        length-digests digests (All-tail P digest digests sized))
+    omega (
+      arith,
+      length-append digest.bytes (flat_map digest_bytes digests),
+      All-head P digest digests sized,
+      length-digests digests (All-tail P digest digests sized),
+    )
 
 pub length-directory_bytes : (directory : Directory) → FitsDirectory directory →
     length (directory_bytes directory) ≡ directory_length (counts_of directory.heads)
@@ -175,39 +174,54 @@ header_of-spelt header small size =
     let counts = counts_bytes header.version header.counts in
     let len = length-counts_bytes header.version header.counts in
     let digest : take 32 header.digest.bytes ≡ header.digest.bytes = take_all 32 header.digest.bytes (omega arith) in
-    rw (take_at counts header.digest.bytes 24 len, drop_at counts header.digest.bytes 24 len,
-        counts-back header.version header.counts small, digest) refl
+    rw (
+      take_at counts header.digest.bytes 24 len,
+      drop_at counts header.digest.bytes 24 len,
+      counts-back header.version header.counts small,
+      digest,
+    ) refl
 
 counts-small : (counts : Counts) → AreCountsInRange counts → All Is32 (counts_numbers 1 counts)
 counts-small counts range =
     let groups : counts.groups ≤ 8388608 =
-        let h = and-right (leb 1 counts.groups) (leb counts.groups 8388608) range.groups in grind (arith, nat_tests) in
+    let h = and-right (leb 1 counts.groups) (leb counts.groups 8388608) range.groups in grind (arith, nat_tests) in
     let clusters : counts.clusters ≤ 8388608 =
-        let h = and-right (leb 1 counts.clusters) (leb counts.clusters 8388608) range.clusters in grind
-        (arith, nat_tests) in
+    let h = and-right (leb 1 counts.clusters) (leb counts.clusters 8388608) range.clusters in grind
+    (arith, nat_tests) in
     let pages : counts.pages ≤ 8388608 =
-        let h = and-right (leb 1 counts.pages) (leb counts.pages 8388608) range.pages in grind (arith, nat_tests) in
+    let h = and-right (leb 1 counts.pages) (leb counts.pages 8388608) range.pages in grind (arith, nat_tests) in
     let roots : counts.roots ≤ counts.pages =
-        let h = and-right (leb 1 counts.roots) (leb counts.roots counts.pages) range.roots in grind
-        (arith, nat_tests) in
+    let h = and-right (leb 1 counts.roots) (leb counts.roots counts.pages) range.roots in grind
+    (arith, nat_tests) in
     let sources = sources-le counts range in
-    All-from_recursion Is32 (counts_numbers 1 counts)
-    (omega arith, (omega (arith, groups), (omega (arith, clusters),
-        (omega (arith, pages), (omega (arith, roots, pages), (omega (arith, sources), tt))))))
+    All-from_recursion Is32 (counts_numbers 1 counts) (
+      omega arith,
+      (
+        omega (arith, groups),
+        (
+          omega (arith, clusters),
+          (omega (arith, pages), (omega (arith, roots, pages), (omega (arith, sources), tt))),
+        ),
+      ),
+    )
 
 pub header_of-in : (dag : Dag) → IsLaidOut dag → header_of (header_bytes (header_in dag)) ≡ header_in dag
 unfolding header_in
 header_of-in dag laid =
     header_of-spelt (header_in dag) (counts-small (counts_of dag.heads) laid.range.counts)
-        (length-sha256 (counts_bytes 1 (counts_of dag.heads) ++ directory_bytes (directory_in dag)))
+    (length-sha256 (counts_bytes 1 (counts_of dag.heads) ++ directory_bytes (directory_in dag)))
 
 length-header_bytes : (dag : Dag) → length (header_bytes (header_in dag)) ≡ 64
 unfolding header_in
 length-header_bytes dag =
     let counts = counts_bytes 1 (counts_of dag.heads) in
     let digest = directory_digest 1 (counts_of dag.heads) (directory_bytes (directory_in dag)) in
-    omega (arith, length-append counts digest, length-counts_bytes 1 (counts_of dag.heads),
-        length-sha256 (counts ++ directory_bytes (directory_in dag)))
+    omega (
+      arith,
+      length-append counts digest,
+      length-counts_bytes 1 (counts_of dag.heads),
+      length-sha256 (counts ++ directory_bytes (directory_in dag)),
+    )
 
 -- ---- the file
 
@@ -221,7 +235,7 @@ piece-at f size a (suc n) zero sized below =
     rw (none, same) (take_at (f a) (flat_map f (range_with_len (a + 1) n)) size (sized a (omega arith) (omega arith)))
 piece-at f size a (suc n) (suc p) sized below =
     let more : size * suc p ≡ length (f a) + size * p =
-        mul-suc size p ∙ omega (arith, sized a (omega arith) (omega arith)) in
+    mul-suc size p ∙ omega (arith, sized a (omega arith) (omega arith)) in
     let same : a + suc p ≡ (a + 1) + p = omega arith in
     rw (more, same, drop-append-add (f a) (flat_map f (range_with_len (a + 1) n)) (size * p))
     (piece-at f size (a + 1) n p (λ q from to. sized q (omega arith) (omega arith)) (omega arith))
@@ -234,27 +248,27 @@ file-header dag laid =
     let directory = directory_bytes (directory_in dag) in
     let pages = flat_map (λ p. page_bytes (page_in dag p)) (range_with_len 0 dag.heads.pages) in
     ap header_of (ap (take 64) (append_assoc header directory pages) ∙
-        take_at header (directory ++ pages) 64 (length-header_bytes dag)) ∙ header_of-in dag laid
+    take_at header (directory ++ pages) 64 (length-header_bytes dag)) ∙ header_of-in dag laid
 
 -- its directory
 pub file-directory : (dag : Dag) → IsLaidOut dag
     → directory_of (counts_of dag.heads) (take (directory_length (counts_of dag.heads)) (drop 64 (file_bytes dag))) ≡
-        directory_in dag
+    directory_in dag
 unfolding file_bytes
 file-directory dag laid =
     let header = header_bytes (header_in dag) in
     let directory = directory_bytes (directory_in dag) in
     let pages = flat_map (λ p. page_bytes (page_in dag p)) (range_with_len 0 dag.heads.pages) in
     let size : length directory ≡ directory_length (counts_of dag.heads) =
-        length-directory_bytes (directory_in dag) (FitsDirectory-in dag laid) ∙
-        ap (λ heads. directory_length (counts_of heads)) (heads-in dag) in
+    length-directory_bytes (directory_in dag) (FitsDirectory-in dag laid) ∙
+    ap (λ heads. directory_length (counts_of heads)) (heads-in dag) in
     ap (λ file. directory_of (counts_of dag.heads) (take (directory_length (counts_of dag.heads)) (drop 64 file)))
-        (append_assoc header directory pages)
+    (append_assoc header directory pages)
     ∙ ap (λ rest. directory_of (counts_of dag.heads) (take (directory_length (counts_of dag.heads)) rest))
-        (drop_at header (directory ++ pages) 64 (length-header_bytes dag))
+    (drop_at header (directory ++ pages) 64 (length-header_bytes dag))
     ∙ ap (directory_of (counts_of dag.heads)) (take_at directory pages (directory_length (counts_of dag.heads)) size)
     ∙ ap (λ heads. directory_of (counts_of heads) directory) (sym (heads-in dag)) ∙
-        directory_of-spelt (directory_in dag) (FitsDirectory-in dag laid)
+    directory_of-spelt (directory_in dag) (FitsDirectory-in dag laid)
 
 -- its pages
 pub file-page : (dag : Dag) → IsLaidOut dag → (p : ℕ) → p < dag.heads.pages
@@ -266,13 +280,13 @@ file-page dag laid p below =
     let f : ℕ → List ℕ = λ p. page_bytes (page_in dag p) in
     let pages = flat_map f (range_with_len 0 dag.heads.pages) in
     let size : length directory ≡ directory_length (counts_of dag.heads) =
-        length-directory_bytes (directory_in dag) (FitsDirectory-in dag laid) ∙
-        ap (λ heads. directory_length (counts_of heads)) (heads-in dag) in
+    length-directory_bytes (directory_in dag) (FitsDirectory-in dag laid) ∙
+    ap (λ heads. directory_length (counts_of heads)) (heads-in dag) in
     let place : page_at (counts_of dag.heads) p ≡ length (header ++ directory) + PAGE_BYTES * p =
-        omega (arith, length-append header directory, length-header_bytes dag, size) in
+    omega (arith, length-append header directory, length-header_bytes dag, size) in
     ap (λ n. page_of dag.heads p (take PAGE_BYTES (drop n ((header ++ directory) ++ pages)))) place
     ∙ ap (λ rest. page_of dag.heads p (take PAGE_BYTES rest))
-        (drop-append-add (header ++ directory) pages (PAGE_BYTES * p))
+    (drop-append-add (header ++ directory) pages (PAGE_BYTES * p))
     ∙ ap (page_of dag.heads p) (piece-at f PAGE_BYTES 0 dag.heads.pages p
-        (λ q from to. length-page_bytes dag laid q (omega arith)) below)
+    (λ q from to. length-page_bytes dag laid q (omega arith)) below)
     ∙ ap (λ n. page_of dag.heads p (f n)) (omega arith) ∙ page_of-in dag laid p

@@ -1,8 +1,6 @@
 -- What is read from bytes without a break fits: pages their heads, directories their ranges.
-use Rattle.std.proofs.Common.{
-  ◌≡◌, ℕ, zero, suc, ◌+◌, ◌*◌, ◌≤◌, Bool, true, false, ◌&&◌, ltb, leb, None, List, [], ◌∷◌, ◌++◌, length, map, get_or,
-  take, drop, refl, sym, ap, ◌∙◌, subst, arith,
-}
+use Rattle.std.proofs.Common.{◌≡◌, ℕ, zero, suc, ◌+◌, ◌*◌, ◌≤◌, Bool, true, false, ◌&&◌, ltb, leb, None, List, [], ◌∷◌}
+use Rattle.std.proofs.Common.{◌++◌, length, map, get_or, take, drop, refl, sym, ap, ◌∙◌, subst, arith}
 use Rattle.std.specs.List.{All, sum_by}
 use Rattle.std.proofs.Math.Nat.{mul-suc}
 use Rattle.std.proofs.lemmas.Bool.Decides.{nat_tests}
@@ -17,18 +15,14 @@ use Rattle.dag_core.specs.declared.heads.Heads.{Heads}
 use Rattle.dag_core.specs.declared.cluster_heads.ClusterHead.{ClusterHead}
 use Rattle.dag_core.specs.Members.{cluster_at}
 use Rattle.dag_core.specs.Pages.{clusters_on, tris_on}
-use Rattle.dag_core.specs.Ranges.{
-  AreCountsInRange, counts_of, is_error, is_group_box, is_page, are_members, is_group_or_none, is_cluster_size,
-  IsGroupInRange, IsClusterInRange,
-}
+use Rattle.dag_core.specs.Ranges.{AreCountsInRange, counts_of, is_error, is_group_box, is_page, are_members}
+use Rattle.dag_core.specs.Ranges.{is_group_or_none, is_cluster_size, IsGroupInRange, IsClusterInRange}
 use Rattle.dag_core.specs.TriangleRules.{IsSourcedTriangle}
 use Rattle.page_codec.specs.declared.pages.PageCluster.{PageCluster}
 use Rattle.page_codec.specs.Numbers.{records, numbers_of}
 use Rattle.page_codec.specs.Records.{triangle_of, group_from, group_of, head_of}
-use Rattle.page_codec.specs.Breaks.{
-  unless, breaks_in, broken_at, triangle_rules, group_rules, head_rules, page_breaks, tail_breaks, directory_breaks,
-  first_page_break, first_directory_break,
-}
+use Rattle.page_codec.specs.Breaks.{unless, breaks_in, broken_at, triangle_rules, group_rules, head_rules, page_breaks}
+use Rattle.page_codec.specs.Breaks.{tail_breaks, directory_breaks, first_page_break, first_directory_break}
 use Rattle.page_codec.specs.Fits.{FitsPage, FitsDirectory}
 use Rattle.page_codec.specs.Reading.{triangles_of, clusters_of, page_of, digest_of, heads_of, directory_of}
 use Rattle.page_codec.specs.Spelling.{directory_length}
@@ -57,11 +51,11 @@ records-kept read size rules P keep (suc n) offset bytes none =
 -- breaks in two pieces
 pub breaks_in-append : (rules : List ℕ → List ℕ) (size offset m n : ℕ) (bytes : List ℕ)
     → breaks_in rules size offset (m + n) bytes ≡ breaks_in rules size offset m bytes ++ breaks_in rules size
-        (offset + size * m) n (drop (size * m) bytes)
+    (offset + size * m) n (drop (size * m) bytes)
 breaks_in-append rules size offset zero n bytes =
     let e : 0 + n ≡ n =
-        omega arith in let z : size * 0 ≡ 0 = omega arith in let o : offset + 0 ≡ offset =
-        omega arith in rw (e, z, o) refl
+    omega arith in let z : size * 0 ≡ 0 = omega arith in let o : offset + 0 ≡ offset =
+    omega arith in rw (e, z, o) refl
 breaks_in-append rules size offset (suc m) n bytes =
     let e : suc m + n ≡ suc (m + n) = omega arith in
     let s : size * suc m ≡ size + size * m = mul-suc size m ∙ omega arith in
@@ -70,7 +64,7 @@ breaks_in-append rules size offset (suc m) n bytes =
     rw (e, s, o, ← drop-drop (size * m) size bytes)
     (ap (λ xs. head ++ xs) (breaks_in-append rules size (offset + size) m n (drop size bytes))
     ∙ sym (append_assoc head (breaks_in rules size (offset + size) m (drop size bytes))
-        (breaks_in rules size ((offset + size) + size * m) n (drop (size * m) (drop size bytes)))))
+    (breaks_in rules size ((offset + size) + size * m) n (drop (size * m) (drop size bytes)))))
 
 -- a triangle without a break
 triangle-sourced : (sources : ℕ) (t : Tagged) → triangle_rules sources t ≡ [] → IsSourcedTriangle sources t
@@ -82,8 +76,10 @@ triangle-sourced sources t none =
     let grid = kept-unless (has_grid_corners t.tri) 1 (nil-left one two (nil-left (one ++ two) three none)) in
     let distinct = kept-unless (has_distinct_corners t.tri) 2 (nil-right one two (nil-left (one ++ two) three none)) in
     let below = kept-unless (ltb t.source sources) 3 (nil-right (one ++ two) three none) in
-    record { triangle = and-both (has_grid_corners t.tri) (has_distinct_corners t.tri) grid distinct; source =
-        grind (arith, nat_tests) }
+    record {
+      triangle = and-both (has_grid_corners t.tri) (has_distinct_corners t.tri) grid distinct;
+      source = grind (arith, nat_tests);
+    }
 
 numbers-read : (heads : Heads) (cs : List ℕ) (bytes : List ℕ) →
     map (λ cluster. cluster.number) (clusters_of heads cs bytes) ≡ cs
@@ -100,7 +96,7 @@ counts-read heads (c ∷ cs) bytes =
     let n = (cluster_at heads c).tris in
     let made : PageCluster = record { number = c; tris = records triangle_of 40 n bytes } in
     All-cons (λ cluster. length cluster.tris ≡ (cluster_at heads cluster.number).tris) made
-        (clusters_of heads cs (drop (40 * n) bytes))
+    (clusters_of heads cs (drop (40 * n) bytes))
     (length-records triangle_of 40 n bytes) (counts-read heads cs (drop (40 * n) bytes))
 
 sourced-read : (heads : Heads) (cs : List ℕ) (offset : ℕ) (bytes : List ℕ) →
@@ -118,13 +114,13 @@ sourced-read heads (c ∷ cs) offset bytes none =
     let head = breaks_in rules 40 offset n bytes in
     let rest = breaks_in rules 40 (offset + 40 * n) (sum_by f cs) (drop (40 * n) bytes) in
     let both : head ++ rest ≡ [] =
-        sym (breaks_in-append rules 40 offset n (sum_by f cs) bytes) ∙
-        ap (λ k. breaks_in rules 40 offset k bytes) (sym sum) ∙ none in
+    sym (breaks_in-append rules 40 offset n (sum_by f cs) bytes) ∙
+    ap (λ k. breaks_in rules 40 offset k bytes) (sym sum) ∙ none in
     let made : PageCluster = record { number = c; tris = records triangle_of 40 n bytes } in
     All-cons (λ cluster. All (IsSourcedTriangle heads.sources) cluster.tris) made
-        (clusters_of heads cs (drop (40 * n) bytes))
+    (clusters_of heads cs (drop (40 * n) bytes))
     (records-kept triangle_of 40 rules (IsSourcedTriangle heads.sources)
-        (λ b good. triangle-sourced heads.sources (triangle_of b) good) n offset bytes (nil-left head rest both))
+    (λ b good. triangle-sourced heads.sources (triangle_of b) good) n offset bytes (nil-left head rest both))
     (sourced-read heads cs (offset + 40 * n) (drop (40 * n) bytes) (nil-right head rest both))
 
 -- a page without a break fits its heads
@@ -178,14 +174,16 @@ digests-sized : (n : ℕ) (bytes : List ℕ) → 32 * n ≤ length bytes →
 digests-sized zero bytes room = All-nil (λ (digest : Digest32). length digest.bytes ≡ 32)
 digests-sized (suc n) bytes room =
     All-cons (λ (digest : Digest32). length digest.bytes ≡ 32) (digest_of (take 32 bytes))
-        (records digest_of 32 n (drop 32 bytes))
+    (records digest_of 32 n (drop 32 bytes))
     (length-take-le 32 bytes (omega arith)) (digests-sized n (drop 32 bytes) (omega (arith, length-drop 32 bytes)))
 
 -- the counts of what is read are those that were given
 pub counts_of-read : (counts : Counts) (bytes : List ℕ) → counts_of (heads_of counts bytes) ≡ counts
 counts_of-read counts bytes =
-    rw (length-records group_of 44 counts.groups bytes,
-        length-records head_of 8 counts.clusters (drop (44 * counts.groups) bytes)) refl
+    rw (
+      length-records group_of 44 counts.groups bytes,
+      length-records head_of 8 counts.clusters (drop (44 * counts.groups) bytes),
+    ) refl
 
 -- a directory without a break fits
 pub FitsDirectory-read : (counts : Counts) (bytes : List ℕ) → AreCountsInRange counts →
@@ -201,7 +199,7 @@ FitsDirectory-read counts bytes range size found =
     let Counted : Counts → Type 0 = λ cs. AreCountsInRange cs in
     let Grouped : Counts → Type 0 = λ cs. All (IsGroupInRange cs) (records group_of 44 counts.groups bytes) in
     let Clustered : Counts → Type 0 =
-        λ cs. All (IsClusterInRange cs) (records head_of 8 counts.clusters (drop g bytes)) in
+    λ cs. All (IsClusterInRange cs) (records head_of 8 counts.clusters (drop g bytes)) in
     record {
       heads = record {
         counts = subst Counted same range;

@@ -1,8 +1,6 @@
 -- In heads that keep rule 1 the clusters on a page are the members of its groups, in order.
-use Rattle.std.proofs.Common.{
-  ◌≡◌, ℕ, zero, suc, ◌+◌, ◌-◌, ◌<◌, ◌≤◌, Bool, true, false, cond, eqb, List, [], ◌∷◌, ◌++◌, length, get_or, take, refl,
-  sym, ap, ◌∙◌, arith,
-}
+use Rattle.std.proofs.Common.{◌≡◌, ℕ, zero, suc, ◌+◌, ◌-◌, ◌<◌, ◌≤◌, Bool, true, false, cond, eqb, List, [], ◌∷◌, ◌++◌}
+use Rattle.std.proofs.Common.{length, get_or, take, refl, sym, ap, ◌∙◌, arith}
 use Rattle.std.specs.List.{filter, flat_map, range_with_len, sum_by}
 use Rattle.std.proofs.lemmas.Bool.Decides.{nat_tests}
 use Rattle.std.proofs.lemmas.Grind.{flat_map-append, common_steps}
@@ -78,7 +76,7 @@ home-member heads checked g c below from to =
     let more = counted-more heads.groups k (omega arith) in
     let gap : (k + 1) + (g - (k + 1)) ≡ g = omega arith in
     let ahead : counted heads.groups (k + 1) ≤ counted heads.groups g =
-        rw gap at (counted-le heads.groups (k + 1) (g - (k + 1)) (omega arith)) in
+    rw gap at (counted-le heads.groups (k + 1) (g - (k + 1)) (omega arith)) in
     grind (arith, nat_tests))
     (λ within.
     let first = first-counted heads checked g below in
@@ -88,7 +86,7 @@ home-member heads checked g c below from to =
 -- the clusters on page p among the members of the first g groups
 pub listed-below : (heads : Heads) → Checked heads → (p g : ℕ) → g ≤ length heads.groups
     → flat_map (members_of p) (take g heads.groups) ≡ filter (λ c. eqb (page_of_cluster heads c) p)
-        (range_with_len 0 (counted heads.groups g))
+    (range_with_len 0 (counted heads.groups g))
 listed-below heads checked p zero within = refl
 listed-below heads checked p (suc g) within =
     let groups = heads.groups in
@@ -99,19 +97,25 @@ listed-below heads checked p (suc g) within =
     let more = counted-more groups g below in
     let first = first-counted heads checked g below in
     let same : filter on (range_with_len (counted groups g) group.count) ≡ cond (eqb group.page p)
-        (range_with_len (counted groups g) group.count) [] =
+    (range_with_len (counted groups g) group.count) [] =
     filter-range on (eqb group.page p) (counted groups g) group.count
     (λ c from to. ap (λ h. eqb (group_at heads h).page p) (home-member heads checked g c below from (omega arith))) in
     let left : flat_map (members_of p) (take (g + 1) groups) ≡ flat_map (members_of p)
-        (take g groups) ++ members_of p group =
-    rw (take_more groups g no_group below, flat_map-append (members_of p) (take g groups) (group ∷ []),
-        append-nil (members_of p group)) refl in
+    (take g groups) ++ members_of p group =
+    rw (
+      take_more groups g no_group below,
+      flat_map-append (members_of p) (take g groups) (group ∷ []),
+      append-nil (members_of p group),
+    ) refl in
     let right : filter on (range_with_len 0 (counted groups (g + 1))) ≡ filter on
-        (range_with_len 0 (counted groups g)) ++ filter on (range_with_len (counted groups g) group.count) =
-    rw (more, range-append 0 (counted groups g) group.count,
-        filter-append on (range_with_len 0 (counted groups g)) (range_with_len (0 + counted groups g) group.count))
+    (range_with_len 0 (counted groups g)) ++ filter on (range_with_len (counted groups g) group.count) =
+    rw (
+      more,
+      range-append 0 (counted groups g) group.count,
+      filter-append on (range_with_len 0 (counted groups g)) (range_with_len (0 + counted groups g) group.count),
+    )
     (ap (λ m. filter on (range_with_len 0 (counted groups g)) ++ filter on (range_with_len m group.count))
-        (omega arith)) in
+    (omega arith)) in
     let members : members_of p group ≡ filter on (range_with_len (counted groups g) group.count) =
     ap (λ m. cond (eqb group.page p) (range_with_len m group.count) []) first ∙ sym same in
     rw e (left ∙ ap (λ xs. xs ++ members_of p group) (listed-below heads checked p g (omega arith))

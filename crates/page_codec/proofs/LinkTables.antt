@@ -1,7 +1,6 @@
 -- One group more is linked to the next one on its page.
-use Rattle.std.proofs.Common.{
-  ◌≡◌, ℕ, ◌+◌, ◌<◌, ◌≤◌, true, false, eqb, List, length, get_or, set, refl, sym, ◌∙◌, inl, inr, arith,
-}
+use Rattle.std.proofs.Common.{◌≡◌, ℕ, ◌+◌, ◌<◌, ◌≤◌, true, false, eqb, List, length, get_or, set, refl, sym, ◌∙◌, inl}
+use Rattle.std.proofs.Common.{inr, arith}
 use Rattle.std.proofs.lemmas.Bool.{cases_eq}
 use Rattle.std.proofs.lemmas.Bool.Decides.{nat_tests}
 use Rattle.std.proofs.lemmas.List.{get_or-set_same, get_or-set_other, length-set}
@@ -23,13 +22,13 @@ pub next_on-here : (groups : List Group) (p g : ℕ) → g < length groups → (
     next_on groups p g ≡ g
 next_on-here groups p g below here =
     let test : eqb (get_or groups g no_group).page p ≡ true =
-        grind (arith, nat_tests) in next_on-at groups p g below ∙ rw test refl
+    grind (arith, nat_tests) in next_on-at groups p g below ∙ rw test refl
 
 pub next_on-later : (groups : List Group) (p g : ℕ) → g < length groups → ((get_or groups g no_group).page ≡ p → ⊥) →
     next_on groups p g ≡ next_on groups p (g + 1)
 next_on-later groups p g below other =
     let test : eqb (get_or groups g no_group).page p ≡ false =
-        grind (arith, nat_tests) in next_on-at groups p g below ∙ rw test refl
+    grind (arith, nat_tests) in next_on-at groups p g below ∙ rw test refl
 
 pub FirstsLinked-more : (groups : List Group) (firsts : List ℕ) (g : ℕ) → g < length groups →
     (get_or groups g no_group).page < length firsts
@@ -46,7 +45,7 @@ FirstsLinked-more groups firsts g below within linked =
 pub NextsLinked-more : (groups : List Group) (firsts nexts : List ℕ) (g : ℕ) → g < length groups →
     (get_or groups g no_group).page < length firsts → length nexts ≡ length groups
     → FirstsLinked groups firsts (g + 1) → NextsLinked groups nexts (g + 1) →
-        NextsLinked groups (set nexts g (get_or firsts (get_or groups g no_group).page 0)) g
+    NextsLinked groups (set nexts g (get_or firsts (get_or groups g no_group).page 0)) g
 NextsLinked-more groups firsts nexts g below within len linked after =
     let page = (get_or groups g no_group).page in
     λ j from to. elim (cases_eq g j) [

@@ -1,8 +1,6 @@
 -- The walk along the groups of a page, from each to the next one.
-use Rattle.std.proofs.Common.{
-  ◌≡◌, ℕ, zero, suc, ◌+◌, ◌<◌, ◌≤◌, Bool, true, false, cond, eqb, List, [], ◌++◌, length, get_or, drop, refl, sym, ap,
-  ◌∙◌, subst, arith,
-}
+use Rattle.std.proofs.Common.{◌≡◌, ℕ, zero, suc, ◌+◌, ◌<◌, ◌≤◌, Bool, true, false, cond, eqb, List, [], ◌++◌, length}
+use Rattle.std.proofs.Common.{get_or, drop, refl, sym, ap, ◌∙◌, subst, arith}
 use Rattle.std.specs.List.{flat_map, range_with_len}
 use Rattle.std.proofs.lemmas.Bool.Decides.{nat_tests}
 use Rattle.std.proofs.lemmas.List.{append_assoc, drop_more, drop_all}
@@ -34,27 +32,39 @@ IsNext-step : (groups : List Group) (p g : ℕ) (b : Bool) → eqb (get_or group
 IsNext-step groups p g true test below next =
     let e : next_on groups p g ≡ g = next_on-at groups p g below ∙ rw test refl in
     let P : ℕ → Type 0 = λ n. IsNext groups p g n in
-    subst P (sym e) (record { members = refl; from = omega arith; within = omega arith; here =
-        λ within. grind (arith, nat_tests) })
+    subst P (sym e) (record {
+      members = refl;
+      from = omega arith;
+      within = omega arith;
+      here = λ within. grind (arith, nat_tests);
+    })
 IsNext-step groups p g false test below next =
     let e : next_on groups p g ≡ next_on groups p (g + 1) = next_on-at groups p g below ∙ rw test refl in
     let P : ℕ → Type 0 = λ n. IsNext groups p g n in
     let none : members_of p (get_or groups g no_group) ≡ [] = rw test refl in
     let skip : flat_map (members_of p) (drop g groups) ≡ flat_map (members_of p) (drop (g + 1) groups) =
     ap (flat_map (members_of p)) (drop_more groups g no_group below) ∙
-        ap (λ xs. xs ++ flat_map (members_of p) (drop (g + 1) groups)) none in
-    subst P (sym e) (record { members = skip ∙ next.members; from = omega (arith, next.from); within =
-        next.within; here = next.here })
+    ap (λ xs. xs ++ flat_map (members_of p) (drop (g + 1) groups)) none in
+    subst P (sym e) (record {
+      members = skip ∙ next.members;
+      from = omega (arith, next.from);
+      within = next.within;
+      here = next.here;
+    })
 
 pub IsNext-next_on : (groups : List Group) (p n g : ℕ) → g + n ≡ length groups → IsNext groups p g (next_on groups p g)
 IsNext-next_on groups p zero g end =
     let e = next_on-end groups p g (omega arith) in
     let P : ℕ → Type 0 = λ n. IsNext groups p g n in
-    subst P (sym e) (record { members = refl; from = omega arith; within = omega arith; here =
-        λ within. absurd (omega arith) })
+    subst P (sym e) (record {
+      members = refl;
+      from = omega arith;
+      within = omega arith;
+      here = λ within. absurd (omega arith);
+    })
 IsNext-next_on groups p (suc n) g end =
     IsNext-step groups p g (eqb (get_or groups g no_group).page p) refl (omega arith)
-        (IsNext-next_on groups p n (g + 1) (omega arith))
+    (IsNext-next_on groups p n (g + 1) (omega arith))
 
 -- the members of a group on the page, then those of the next one
 pub members-step : (groups : List Group) (p g n : ℕ) (items pushed whole : List ℕ) → g < length groups
@@ -67,7 +77,7 @@ members-step groups p g n items pushed whole below here next push all =
     let test : eqb group.page p ≡ true = grind (arith, nat_tests) in
     let listed : members_of p group ≡ range_with_len group.first group.count = rw test refl in
     let more : flat_map (members_of p) (drop g groups) ≡ range_with_len group.first group.count ++ flat_map
-        (members_of p) (drop n groups) =
+    (members_of p) (drop n groups) =
     ap (flat_map (members_of p)) (drop_more groups g no_group below)
     ∙ ap (λ xs. xs ++ flat_map (members_of p) (drop (g + 1) groups)) listed
     ∙ ap (λ xs. range_with_len group.first group.count ++ xs) next.members in

@@ -28,7 +28,7 @@ numbers_of-spelt numbers all =
     ap (records (little_number 4) 4 (length numbers)) (sym (append-nil (flat_map number_bytes numbers)))
     ∙ records-spelt (little_number 4) number_bytes 4 Is32 (λ n small. refl)
     (λ n small. ap (little_number 4) (sym (append-nil (number_bytes n))) ∙ little_number-reads_back 4 n [] small)
-        numbers [] all
+    numbers [] all
 
 number-same : (b : List ℕ) → length b ≡ 4 → little_number 4 b ≡ from_le_bytes w32 b
 number-same [] len = cc
@@ -52,5 +52,5 @@ pub numbers_bytes-read : (n : ℕ) (bytes : List ℕ) → length bytes ≡ 4 * n
 unfolding numbers_bytes numbers_of
 numbers_bytes-read n bytes len are =
     spelt-records (little_number 4) number_bytes 4 (λ b. []) (λ b len are none. number_bytes-read b len are) n 0 bytes
-        (omega arith) are (no-breaks n 0 bytes)
+    (omega arith) are (no-breaks n 0 bytes)
     ∙ take_all (4 * n) bytes (omega arith)

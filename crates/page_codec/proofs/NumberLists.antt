@@ -19,7 +19,7 @@ numbers_of-read (suc n) src [] len read = cc
 numbers_of-read zero src (x ∷ dst) len read = cc
 numbers_of-read (suc n) src (x ∷ dst) len read =
     let head : x ≡ little_number 4 (take 4 src) =
-        read 0 (omega arith) ∙ sym (little_from-take 0 4 4 src (omega arith)) in
+    read 0 (omega arith) ∙ sym (little_from-take 0 4 4 src (omega arith)) in
     let rest : dst ≡ records (little_number 4) 4 n (drop 4 src) = numbers_of-read n (drop 4 src) dst (omega arith)
     (λ k below. read (suc k) (omega arith)
     ∙ ap (λ xs. little_number 4 xs) (ap (λ m. drop m src) (omega arith) ∙ sym (drop-drop (4 * k) 4 src))) in

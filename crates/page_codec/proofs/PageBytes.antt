@@ -1,8 +1,6 @@
 -- The bytes of a page by its groups.
-use Rattle.std.proofs.Common.{
-  ◌≡◌, ℕ, zero, suc, ◌+◌, ◌-◌, ◌*◌, ◌<◌, ◌≤◌, true, eqb, replicate, List, [], ◌∷◌, ◌++◌, length, map, get_or, take,
-  drop, refl, sym, ap, ◌∙◌, arith,
-}
+use Rattle.std.proofs.Common.{◌≡◌, ℕ, zero, suc, ◌+◌, ◌-◌, ◌*◌, ◌<◌, ◌≤◌, true, eqb, replicate, List, [], ◌∷◌, ◌++◌}
+use Rattle.std.proofs.Common.{length, map, get_or, take, drop, refl, sym, ap, ◌∙◌, arith}
 use Rattle.std.specs.List.{flat_map, range_with_len, sum_by}
 use Rattle.std.proofs.lemmas.Bool.Decides.{nat_tests}
 use Rattle.std.proofs.lemmas.Grind.{flat_map-append, common_steps}
@@ -16,9 +14,8 @@ use Rattle.dag_core.specs.Rules.{Checked}
 use Rattle.dag_core.specs.Triangles.{tris_at, HasTris}
 use Rattle.page_codec.specs.Spelling.{cluster_bytes, clusters_bytes, page_cluster, page_in}
 use Rattle.page_codec.proofs.ClusterBytes.{length-cluster_bytes}
-use Rattle.page_codec.proofs.Homes.{
-  members_of, counted, counted-more, counted-le, first-counted, all-counted, clusters_on-members,
-}
+use Rattle.page_codec.proofs.Homes.{members_of, counted, counted-more, counted-le, first-counted, all-counted}
+use Rattle.page_codec.proofs.Homes.{clusters_on-members}
 use Rattle.page_codec.proofs.PageRules.{tris_on-le}
 
 -- the bytes of these clusters of a DAG
@@ -37,7 +34,7 @@ pub bytes_of-range : (dag : Dag) (first count : ℕ) → first + count ≤ lengt
 bytes_of-range dag first zero room = refl
 bytes_of-range dag first (suc count) room =
     rw (drop_more dag.tris first [] (omega arith))
-        (ap (λ xs. cluster_bytes (tris_at dag first) ++ xs) (bytes_of-range dag (first + 1) count (omega arith)))
+    (ap (λ xs. cluster_bytes (tris_at dag first) ++ xs) (bytes_of-range dag (first + 1) count (omega arith)))
 
 -- lists with one image have one image at each place
 at-same : {X Y : Type 0} (f : X → ℕ) (g : Y → ℕ) (xs : List X) (ys : List Y) (i : ℕ) (x : X) (y : Y) →
@@ -56,8 +53,12 @@ length-tris_at dag has c =
 -- there are as many lists of triangles as clusters
 pub length-tris : (dag : Dag) → HasTris dag → length dag.tris ≡ length dag.heads.clusters
 length-tris dag has =
-    omega (arith, length-map dag.tris (λ tris. length tris), length-map dag.heads.clusters (λ cluster. cluster.tris),
-        ap length has)
+    omega (
+      arith,
+      length-map dag.tris (λ tris. length tris),
+      length-map dag.heads.clusters (λ cluster. cluster.tris),
+      ap length has,
+    )
 
 -- 40 bytes a triangle
 pub length-bytes_of : (dag : Dag) → HasTris dag → (cs : List ℕ) →
@@ -65,9 +66,15 @@ pub length-bytes_of : (dag : Dag) → HasTris dag → (cs : List ℕ) →
 length-bytes_of dag has [] = refl
 length-bytes_of dag has (c ∷ cs) =
     let sum : sum_by (λ c. (cluster_at dag.heads c).tris) (c ∷ cs) ≡ (cluster_at dag.heads c).tris + sum_by
-        (λ c. (cluster_at dag.heads c).tris) cs = grind (arith, common_steps) in
-    omega (arith, length-append (cluster_bytes (tris_at dag c)) (bytes_of dag cs), length-cluster_bytes (tris_at dag c),
-        length-tris_at dag has c, length-bytes_of dag has cs, sum)
+    (λ c. (cluster_at dag.heads c).tris) cs = grind (arith, common_steps) in
+    omega (
+      arith,
+      length-append (cluster_bytes (tris_at dag c)) (bytes_of dag cs),
+      length-cluster_bytes (tris_at dag c),
+      length-tris_at dag has c,
+      length-bytes_of dag has cs,
+      sum,
+    )
 
 -- a group's members are clusters of the DAG
 pub members-within : (heads : Heads) → Checked heads → (g : ℕ) → g < length heads.groups →
@@ -75,16 +82,21 @@ pub members-within : (heads : Heads) → Checked heads → (g : ℕ) → g < len
 members-within heads checked g below =
     let rest : (g + 1) + (length heads.groups - (g + 1)) ≡ length heads.groups = omega arith in
     let most : counted heads.groups (g + 1) ≤ counted heads.groups (length heads.groups) =
-        rw rest at (counted-le heads.groups (g + 1) (length heads.groups - (g + 1)) (omega arith)) in
-    omega (arith, most, all-counted heads checked, first-counted heads checked g below,
-        counted-more heads.groups g below)
+    rw rest at (counted-le heads.groups (g + 1) (length heads.groups - (g + 1)) (omega arith)) in
+    omega (
+      arith,
+      most,
+      all-counted heads checked,
+      first-counted heads checked g below,
+      counted-more heads.groups g below,
+    )
 
 -- what is left of a page: the clusters of a group on it, then those of the groups after it
 pub bytes_of-left : (dag : Dag) (p g : ℕ) → g < length dag.heads.groups → (group_at dag.heads g).page ≡ p →
     (group_at dag.heads g).first + (group_at dag.heads g).count ≤ length dag.tris
     → bytes_of dag (flat_map (members_of p) (drop g dag.heads.groups))
     ≡ flat_map cluster_bytes (take (group_at dag.heads g).count (drop (group_at dag.heads g).first dag.tris)) ++
-        bytes_of dag (flat_map (members_of p) (drop (g + 1) dag.heads.groups))
+    bytes_of dag (flat_map (members_of p) (drop (g + 1) dag.heads.groups))
 bytes_of-left dag p g below here room =
     let group = group_at dag.heads g in
     let rest = flat_map (members_of p) (drop (g + 1) dag.heads.groups) in
@@ -106,7 +118,7 @@ pub length-groups-le : (dag : Dag) → Checked dag.heads → HasTris dag → (p 
 unfolding tris_on
 length-groups-le dag checked has p below =
     rw (clusters_on-members dag.heads checked p)
-        (omega (arith, length-bytes_of dag has (clusters_on dag.heads p), tris_on-le dag.heads checked p below))
+    (omega (arith, length-bytes_of dag has (clusters_on dag.heads p), tris_on-le dag.heads checked p below))
 
 -- a page is its clusters, then zeros
 pub page-filled : (body new zeros : List ℕ) (end len : ℕ) → length new ≡ len → end ≤ len → take end new ≡ body →
@@ -114,5 +126,5 @@ pub page-filled : (body new zeros : List ℕ) (end len : ℕ) → length new ≡
     → take end new ++ (zeros ++ drop (length new - end) (drop end new)) ≡ body ++ replicate (len - length body) 0
 page-filled body new zeros end len size within front at fill =
     let none : drop (length new - end) (drop end new) ≡ [] =
-        drop_all (length new - end) (drop end new) (omega (arith, length-drop end new)) in
+    drop_all (length new - end) (drop end new) (omega (arith, length-drop end new)) in
     rw (none, append-nil zeros, front, fill, at) refl

@@ -1,8 +1,6 @@
 -- A page without a break is what the page that it reads as spells.
-use Rattle.std.proofs.Common.{
-  ◌≡◌, ℕ, zero, suc, ◌+◌, ◌-◌, ◌*◌, ◌≤◌, Bool, true, false, cond, eqb, None, List, [], ◌∷◌, ◌++◌, length, replicate,
-  get_or, take, drop, refl, sym, ap, ◌∙◌, arith,
-}
+use Rattle.std.proofs.Common.{◌≡◌, ℕ, zero, suc, ◌+◌, ◌-◌, ◌*◌, ◌≤◌, Bool, true, false, cond, eqb, None, List, [], ◌∷◌}
+use Rattle.std.proofs.Common.{◌++◌, length, replicate, get_or, take, drop, refl, sym, ap, ◌∙◌, arith}
 use Rattle.std.specs.List.{flat_map, sum_by}
 use Rattle.std.proofs.lemmas.Bool.Decides.{nat_tests}
 use Rattle.std.proofs.lemmas.Grind.{flat_map-append, common_steps}
@@ -14,9 +12,8 @@ use Rattle.dag_core.specs.Members.{cluster_at}
 use Rattle.dag_core.specs.Pages.{clusters_on, tris_on}
 use Rattle.page_codec.specs.Numbers.{records, IsBytes}
 use Rattle.page_codec.specs.Records.{triangle_of, triangle_bytes}
-use Rattle.page_codec.specs.Breaks.{
-  unless, breaks_in, broken_at, triangle_rules, tail_breaks, page_breaks, first_page_break,
-}
+use Rattle.page_codec.specs.Breaks.{unless, breaks_in, broken_at, triangle_rules, tail_breaks, page_breaks}
+use Rattle.page_codec.specs.Breaks.{first_page_break}
 use Rattle.page_codec.specs.Reading.{triangles_of, clusters_of, page_of}
 use Rattle.page_codec.specs.Spelling.{cluster_bytes, clusters_bytes, tail_bytes, page_bytes_in, page_bytes}
 use Rattle.page_codec.proofs.NumberLists.{drop-drop}
@@ -33,7 +30,7 @@ records-append read size (suc m) n bytes =
     let e : suc m + n ≡ suc (m + n) = omega arith in
     let s : size * suc m ≡ size + size * m = mul-suc size m ∙ omega arith in
     rw (e, s, ← drop-drop (size * m) size bytes)
-        (ap (λ xs. read (take size bytes) ∷ xs) (records-append read size m n (drop size bytes)))
+    (ap (λ xs. read (take size bytes) ∷ xs) (records-append read size m n (drop size bytes)))
 
 -- clusters that are read one after the other spell the triangles that are read one after the other
 pub clusters_bytes-read : (heads : Heads) (cs : List ℕ) (bytes : List ℕ) →
@@ -44,11 +41,14 @@ clusters_bytes-read heads [] bytes = refl
 clusters_bytes-read heads (c ∷ cs) bytes =
     let f : ℕ → ℕ = λ c. (cluster_at heads c).tris in
     let sum : sum_by f (c ∷ cs) ≡ f c + sum_by f cs = grind (arith, common_steps) in
-    rw (sum, records-append triangle_of 40 (f c) (sum_by f cs) bytes,
-        flat_map-append triangle_bytes (records triangle_of 40 (f c) bytes)
-        (records triangle_of 40 (sum_by f cs) (drop (40 * f c) bytes)))
+    rw (
+      sum,
+      records-append triangle_of 40 (f c) (sum_by f cs) bytes,
+      flat_map-append triangle_bytes (records triangle_of 40 (f c) bytes)
+          (records triangle_of 40 (sum_by f cs) (drop (40 * f c) bytes)),
+    )
     (ap (λ xs. flat_map triangle_bytes (records triangle_of 40 (f c) bytes) ++ xs)
-        (clusters_bytes-read heads cs (drop (40 * f c) bytes)))
+    (clusters_bytes-read heads cs (drop (40 * f c) bytes)))
 
 -- a byte that breaks no rule is 0
 zero-byte : (b offset : ℕ) (t : Bool) → eqb b 0 ≡ t → broken_at offset (cond t [] (4 ∷ [])) ≡ [] → b ≡ 0
@@ -62,9 +62,9 @@ zero-tail offset [] none = refl
 zero-tail offset (b ∷ bytes) none =
     let rest = breaks_in (λ byte. unless (eqb (get_or byte 0 0) 0) 4) 1 (offset + 1) (length bytes) bytes in
     let zero : b ≡ 0 =
-        zero-byte b offset (eqb b 0) refl (nil-left (broken_at offset (cond (eqb b 0) [] (4 ∷ []))) rest none) in
+    zero-byte b offset (eqb b 0) refl (nil-left (broken_at offset (cond (eqb b 0) [] (4 ∷ []))) rest none) in
     let after : bytes ≡ replicate (length bytes) 0 =
-        zero-tail (offset + 1) bytes (nil-right (broken_at offset (cond (eqb b 0) [] (4 ∷ []))) rest none) in
+    zero-tail (offset + 1) bytes (nil-right (broken_at offset (cond (eqb b 0) [] (4 ∷ []))) rest none) in
     ap (λ x. x ∷ bytes) zero ∙ ap (λ xs. 0 ∷ xs) after
 
 -- n triangles without a break, then a tail without one, are what they read as
@@ -79,7 +79,7 @@ page_bytes_in-read heads p len bytes size are room none =
     let body : clusters_bytes (clusters_of heads (clusters_on heads p) bytes) ≡ take (40 * n) bytes =
     clusters_bytes-read heads (clusters_on heads p) bytes
     ∙ spelt-records triangle_of triangle_bytes 40 (λ b. triangle_rules heads.sources (triangle_of b))
-        (λ b len are good. triangle_bytes-read b len are)
+    (λ b len are good. triangle_bytes-read b len are)
     n 0 bytes (omega arith) are (nil-left triangles tail none) in
     let zeros = zero-tail (40 * n) (drop (40 * n) bytes) (nil-right triangles tail none) in
     let size_body : length (take (40 * n) bytes) ≡ 40 * n = length-take-le (40 * n) bytes (omega arith) in
@@ -92,4 +92,4 @@ pub page_bytes-read : (heads : Heads) (p : ℕ) (bytes : List ℕ) → length by
 unfolding page_bytes
 page_bytes-read heads p bytes size are most found =
     page_bytes_in-read heads p PAGE_BYTES bytes size are (omega arith)
-        (none-first (page_breaks heads.sources (tris_on heads p) bytes) (sym found))
+    (none-first (page_breaks heads.sources (tris_on heads p) bytes) (sym found))

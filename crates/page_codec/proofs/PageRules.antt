@@ -37,7 +37,7 @@ unfolding breaks_page
 tris_on-le heads checked p below =
     let page : ltb p heads.pages ≡ true = grind (arith, nat_tests) in
     let count =
-        kept (leb 1 (tris_on heads p) && leb (tris_on heads p) 1638) (leb heads.roots p && has_terminal_on heads p)
-        (list_any (ltb p) (uppers_of heads p)) (inside (ltb p heads.pages) _ page (checked 5 p)) in
+    kept (leb 1 (tris_on heads p) && leb (tris_on heads p) 1638) (leb heads.roots p && has_terminal_on heads p)
+    (list_any (ltb p) (uppers_of heads p)) (inside (ltb p heads.pages) _ page (checked 5 p)) in
     let most = within (leb 1 (tris_on heads p)) (leb (tris_on heads p) 1638) count in
     grind (arith, nat_tests)

@@ -1,7 +1,6 @@
 -- Steps of loops over records.
-use Rattle.std.proofs.Common.{
-  ◌≡◌, ℕ, suc, ◌+◌, ◌-◌, ◌*◌, ◌<◌, List, [], ◌∷◌, ◌++◌, take, drop, Option, Some, None, refl, sym, ap, ◌∙◌, arith,
-}
+use Rattle.std.proofs.Common.{◌≡◌, ℕ, suc, ◌+◌, ◌-◌, ◌*◌, ◌<◌, List, [], ◌∷◌, ◌++◌, take, drop, Option, Some, None}
+use Rattle.std.proofs.Common.{refl, sym, ap, ◌∙◌, arith}
 use Rattle.std.proofs.lemmas.List.{append_assoc}
 use Rattle.std.proofs.Math.Nat.{mul-suc}
 use Rattle.page_codec.specs.declared.breaks.Break.{Break}
@@ -15,7 +14,7 @@ records-more read size n k bytes below = let e : n - k ≡ suc (n - (k + 1)) = o
 
 pub breaks_in-more : (rules : List ℕ → List ℕ) (size offset n k : ℕ) (bytes : List ℕ) → k < n
     → breaks_in rules size offset (n - k) bytes ≡ broken_at offset (rules (take size bytes)) ++ breaks_in rules size
-        (offset + size) (n - (k + 1)) (drop size bytes)
+    (offset + size) (n - (k + 1)) (drop size bytes)
 breaks_in-more rules size offset n k bytes below = let e : n - k ≡ suc (n - (k + 1)) = omega arith in rw e refl
 
 -- what is left of the bytes is one record less
@@ -29,8 +28,15 @@ pub records-step : {X : Type 0} (read : List ℕ → X) (size n k : ℕ) (rest r
     → items ++ records read size (n - k) rest ≡ whole
     → pushed ++ records read size (n - (k + 1)) back ≡ whole
 records-step read size n k rest record_bytes back items pushed whole x below front behind is push all =
-    rw (push, is, front, behind, append_assoc items (read (take size rest) ∷ [])
-        (records read size (n - (k + 1)) (drop size rest)), ← records-more read size n k rest below) all
+    rw (
+      push,
+      is,
+      front,
+      behind,
+      append_assoc items (read (take size rest) ∷ [])
+          (records read size (n - (k + 1)) (drop size rest)),
+      ← records-more read size n k rest below,
+    ) all
 
 -- a list without a first item is empty
 pub none-first : {X : Type 0} (xs : List X) → None ≡ first_of xs → xs ≡ []
@@ -55,10 +61,10 @@ pub breaks_in-step : (rules : List ℕ → List ℕ) (size offset n k : ℕ) (re
 breaks_in-step rules size offset n k rest record_bytes back whole below front behind good first =
     let unbroken : rules (take size rest) ≡ [] = ap rules (sym front) ∙ good in
     let more : breaks_in rules size offset (n - k) rest ≡ breaks_in rules size (offset + size) (n - (k + 1))
-        (drop size rest) =
+    (drop size rest) =
     breaks_in-more rules size offset n k rest below ∙
-        ap (λ found. broken_at offset found ++ breaks_in rules size (offset + size) (n - (k + 1)) (drop size rest))
-        unbroken in
+    ap (λ found. broken_at offset found ++ breaks_in rules size (offset + size) (n - (k + 1)) (drop size rest))
+    unbroken in
     rw (behind, ← more) first
 
 -- nothing comes before the first break of the first list
@@ -75,5 +81,5 @@ pub breaks_in-first : (rules : List ℕ → List ℕ) (size offset n k rule : �
     → Some (record { rule = rule; offset = offset }) ≡ whole
 breaks_in-first rules size offset n k rule rest record_bytes whole below front found first =
     first-broken rule offset (rules (take size rest))
-        (breaks_in rules size (offset + size) (n - (k + 1)) (drop size rest)) (rw (← front) found)
+    (breaks_in rules size (offset + size) (n - (k + 1)) (drop size rest)) (rw (← front) found)
     ∙ ap first_of (sym (breaks_in-more rules size offset n k rest below)) ∙ first

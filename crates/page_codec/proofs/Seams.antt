@@ -15,11 +15,11 @@ pub header-joined : (front old more counts digest : List ℕ) → length front �
     → put_mid 32 32 (put_mid 8 24 (front ++ (old ++ more)) counts) digest ≡ front ++ (counts ++ digest)
 header-joined front old more counts digest at len rest new =
     let first : put_mid 8 24 (front ++ (old ++ more)) counts ≡ front ++ (counts ++ more) =
-        put_mid-seam 8 24 front old more counts at len in
+    put_mid-seam 8 24 front old more counts at len in
     let regroup : front ++ (counts ++ more) ≡ (front ++ counts) ++ (more ++ []) =
-        sym (append_assoc front counts more) ∙ ap (λ r. (front ++ counts) ++ r) (sym (append-nil more)) in
+    sym (append_assoc front counts more) ∙ ap (λ r. (front ++ counts) ++ r) (sym (append-nil more)) in
     let joined : length (front ++ counts) ≡ 32 = length-append front counts ∙ omega arith in
     let second : put_mid 32 32 ((front ++ counts) ++ (more ++ [])) digest ≡ (front ++ counts) ++ (digest ++ []) =
-        put_mid-seam 32 32 (front ++ counts) more [] digest joined rest in
+    put_mid-seam 32 32 (front ++ counts) more [] digest joined rest in
     ap (λ r. put_mid 32 32 r digest) (first ∙ regroup) ∙ second ∙
-        rw (append-nil digest) (append_assoc front counts digest)
+    rw (append-nil digest) (append_assoc front counts digest)

@@ -1,8 +1,6 @@
 -- What a page of source triangles spells breaks no rule, and reads back.
-use Rattle.std.proofs.Common.{
-  ◌≡◌, ℕ, ℤ, pos, negsuc, ◌*◌, ◌<◌, ◌≤◌, Bool, true, false, ◌&&◌, ltb, List, [], ◌∷◌, ◌++◌, length, map, refl, ap, ◌∙◌,
-  arith,
-}
+use Rattle.std.proofs.Common.{◌≡◌, ℕ, ℤ, pos, negsuc, ◌*◌, ◌<◌, ◌≤◌, Bool, true, false, ◌&&◌, ltb, List, [], ◌∷◌, ◌++◌}
+use Rattle.std.proofs.Common.{length, map, refl, ap, ◌∙◌, arith}
 use Rattle.std.specs.Prelude.{unsigned_abs}
 use Rattle.std.specs.Int.{w32}
 use Rattle.std.specs.List.{All}
@@ -18,9 +16,8 @@ use Rattle.dag_core.specs.Members.{cluster_at}
 use Rattle.dag_core.specs.TriangleRules.{IsSourcedTriangle}
 use Rattle.page_codec.specs.declared.pages.PageCluster.{PageCluster}
 use Rattle.page_codec.specs.Numbers.{records}
-use Rattle.page_codec.specs.Records.{
-  coordinate_number, coordinate_from, triangle_numbers, triangle_from, triangle_bytes, triangle_of,
-}
+use Rattle.page_codec.specs.Records.{coordinate_number, coordinate_from, triangle_numbers, triangle_from}
+use Rattle.page_codec.specs.Records.{triangle_bytes, triangle_of}
 use Rattle.page_codec.specs.Breaks.{triangle_rules}
 use Rattle.page_codec.specs.Reading.{triangles_of, clusters_of}
 use Rattle.page_codec.specs.Spelling.{cluster_bytes, clusters_bytes}
@@ -96,8 +93,13 @@ triangle-fits t on small =
               coordinate-fits t.tri.b.y on.by,
               (
                 coordinate-fits t.tri.b.z on.bz,
-                (coordinate-fits t.tri.c.x on.cx, (coordinate-fits t.tri.c.y on.cy,
-                    (coordinate-fits t.tri.c.z on.cz, (small, tt)))),
+                (
+                  coordinate-fits t.tri.c.x on.cx,
+                  (
+                    coordinate-fits t.tri.c.y on.cy,
+                    (coordinate-fits t.tri.c.z on.cz, (small, tt)),
+                  ),
+                ),
               ),
             ),
           ),
@@ -127,7 +129,7 @@ unfolding triangle_numbers
 triangle_of-spelt sources t most is =
     let on = coordinates-of t.tri (and-left (has_grid_corners t.tri) (has_distinct_corners t.tri) is.triangle) in
     ap triangle_from (numbers_of-spelt (triangle_numbers t) (triangle-fits t on (omega (arith, is.source)))) ∙
-        triangle-back t on
+    triangle-back t on
 
 -- it breaks no rule
 pub triangle_rules-spelt : (sources : ℕ) (t : Tagged) → sources ≤ 1048576 → IsSourcedTriangle sources t →
@@ -142,21 +144,21 @@ triangle_rules-spelt sources t most is =
 -- clusters read back, one after the other
 pub clusters_of-spelt : (heads : Heads) (clusters : List PageCluster) (rest : List ℕ) → heads.sources ≤ 1048576
     → All (λ cluster. length cluster.tris ≡ (cluster_at heads cluster.number).tris) clusters →
-        All (λ cluster. All (IsSourcedTriangle heads.sources) cluster.tris) clusters
+    All (λ cluster. All (IsSourcedTriangle heads.sources) cluster.tris) clusters
     → clusters_of heads (map (λ cluster. cluster.number) clusters) (clusters_bytes clusters ++ rest) ≡ clusters
 unfolding cluster_bytes triangles_of
 clusters_of-spelt heads [] rest most counts sourced = refl
 clusters_of-spelt heads (cluster ∷ clusters) rest most counts sourced =
     let count =
-        All-head (λ cluster. length cluster.tris ≡ (cluster_at heads cluster.number).tris) cluster clusters counts in
+    All-head (λ cluster. length cluster.tris ≡ (cluster_at heads cluster.number).tris) cluster clusters counts in
     let is = All-head (λ cluster. All (IsSourcedTriangle heads.sources) cluster.tris) cluster clusters sourced in
     let more = clusters_bytes clusters ++ rest in
     let whole = append_assoc (cluster_bytes cluster.tris) (clusters_bytes clusters) rest in
     let size : length (cluster_bytes cluster.tris) ≡ 40 * length cluster.tris = length-cluster_bytes cluster.tris in
     let tris : records triangle_of 40 (length cluster.tris) (cluster_bytes cluster.tris ++ more) ≡ cluster.tris =
     records-spelt triangle_of triangle_bytes 40 (IsSourcedTriangle heads.sources) (λ t good. length-triangle_bytes t)
-        (λ t good. triangle_of-spelt heads.sources t most good) cluster.tris more is in
+    (λ t good. triangle_of-spelt heads.sources t most good) cluster.tris more is in
     rw (whole, ← count, tris, drop_at (cluster_bytes cluster.tris) more (40 * length cluster.tris) size)
     (ap (λ cs. cluster ∷ cs) (clusters_of-spelt heads clusters rest most
-        (All-tail (λ cluster. length cluster.tris ≡ (cluster_at heads cluster.number).tris) cluster clusters counts)
-        (All-tail (λ cluster. All (IsSourcedTriangle heads.sources) cluster.tris) cluster clusters sourced)))
+    (All-tail (λ cluster. length cluster.tris ≡ (cluster_at heads cluster.number).tris) cluster clusters counts)
+    (All-tail (λ cluster. All (IsSourcedTriangle heads.sources) cluster.tris) cluster clusters sourced)))

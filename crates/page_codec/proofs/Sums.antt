@@ -10,7 +10,7 @@ pub sum-next : {X : Type 0} (f : X → ℕ) (xs : List X) (i : ℕ) (d : X) → 
     sum_by f (take i xs) + f (get_or xs i d) ≤ sum_by f xs
 sum-next f xs i d below =
     let more : sum_by f (take (i + 1) xs) ≡ sum_by f (take i xs) + f (get_or xs i d) =
-        rw (take_more xs i d below) (grind (arith, common_steps)) in
+    rw (take_more xs i d below) (grind (arith, common_steps)) in
     omega (arith, sum_by-take-le f xs (i + 1), more)
 
 -- the sum of what is left is the next item's part and the sum of the rest
@@ -18,5 +18,5 @@ pub sum-left : {X : Type 0} (f : X → ℕ) (xs : List X) (i : ℕ) (d : X) → 
     sum_by f (drop i xs) ≡ f (get_or xs i d) + sum_by f (drop (i + 1) xs)
 sum-left f xs i d below =
     let more : sum_by f (take (i + 1) xs) ≡ sum_by f (take i xs) + f (get_or xs i d) =
-        rw (take_more xs i d below) (grind (arith, common_steps)) in
+    rw (take_more xs i d below) (grind (arith, common_steps)) in
     omega (arith, sum_by-take-drop f xs i, sum_by-take-drop f xs (i + 1), more)

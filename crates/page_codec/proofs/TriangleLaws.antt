@@ -20,9 +20,9 @@ Are32 numbers = (i : ℕ) → get_or numbers i 0 < 4294967296
 pub listed : (n : ℕ) (xs : List ℕ) → length xs ≡ n → map (λ i. get_or xs i 0) (range_with_len 0 n) ≡ xs
 listed n xs len =
     ext_get_or 0 (map (λ i. get_or xs i 0) (range_with_len 0 n)) xs
-        (length-map-range_with_len (λ i. get_or xs i 0) 0 n ∙ sym len)
+    (length-map-range_with_len (λ i. get_or xs i 0) 0 n ∙ sym len)
     (λ i below. let size = length-map-range_with_len (λ i. get_or xs i 0) 0 n in get_or-map-range_with_len
-        (λ i. get_or xs i 0) 0 n i i 0 (omega arith) (omega arith))
+    (λ i. get_or xs i 0) 0 n i i 0 (omega arith) (omega arith))
 
 -- numbers that are read fit
 pub Are32-read : (n : ℕ) (bytes : List ℕ) → IsBytes bytes → (i : ℕ) →

@@ -1,8 +1,6 @@
 -- Which rules of the grammar the bytes of a page and of a directory break, and which of them is the first.
-use Rattle.std.specs.Prelude.{
-  ◌≡◌, Bool, ◌==◌, nat_le, nat_lt, ℕ, zero, suc, ◌+◌, ◌*◌, List, [], ◌∷◌, ◌++◌, length, map, take, drop, Option, Some,
-  None, slice_index, if◌then◌else◌,
-}
+use Rattle.std.specs.Prelude.{◌≡◌, Bool, ◌==◌, nat_le, nat_lt, ℕ, zero, suc, ◌+◌, ◌*◌, List, [], ◌∷◌, ◌++◌, length, map}
+use Rattle.std.specs.Prelude.{take, drop, Option, Some, None, slice_index, if◌then◌else◌}
 use Rattle.geom_core.specs.declared.limits.TheConstants.{TRIANGLE_BYTES}
 use Rattle.geom_core.specs.declared.triangles.Tagged.{Tagged}
 use Rattle.geom_core.specs.Limits.{has_grid_corners, has_distinct_corners}
@@ -84,7 +82,7 @@ unfoldable pub directory_breaks : Counts → List ℕ → List Break
 directory_breaks counts bytes =
     breaks_in (λ bytes. group_rules counts (numbers_of 11 bytes)) GROUP_BYTES 0 counts.groups bytes
     ++ breaks_in (λ bytes. head_rules counts (head_of bytes)) CLUSTER_BYTES (clusters_at counts) counts.clusters
-        (drop (clusters_at counts) bytes)
+    (drop (clusters_at counts) bytes)
 
 -- the first break of a directory with these counts
 abbrev pub first_directory_break : Counts → List ℕ → Option Break

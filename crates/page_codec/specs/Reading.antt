@@ -7,9 +7,8 @@ use Rattle.dag_core.specs.declared.counts.Counts.{Counts}
 use Rattle.dag_core.specs.declared.heads.Heads.{Heads}
 use Rattle.dag_core.specs.Members.{cluster_at}
 use Rattle.dag_core.specs.Pages.{clusters_on}
-use Rattle.page_codec.specs.declared.sizes.TheConstants.{
-  HEADER_BYTES, COUNTS_END, GROUP_BYTES, CLUSTER_BYTES, DIGEST_BYTES,
-}
+use Rattle.page_codec.specs.declared.sizes.TheConstants.{HEADER_BYTES, COUNTS_END, GROUP_BYTES, CLUSTER_BYTES}
+use Rattle.page_codec.specs.declared.sizes.TheConstants.{DIGEST_BYTES}
 use Rattle.page_codec.specs.declared.pages.PageCluster.{PageCluster}
 use Rattle.page_codec.specs.declared.pages.Page.{Page}
 use Rattle.page_codec.specs.declared.directories.Directory.{Directory}

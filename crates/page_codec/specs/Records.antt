@@ -1,7 +1,6 @@
 -- The records of a page file as numbers, both ways: a triangle ten, a group eleven, a cluster two.
-use Rattle.std.specs.Prelude.{
-  Bool, true, false, ◌==◌, ℕ, ◌+◌, ℤ, List, [], ◌∷◌, ◌++◌, Option, Some, None, slice_index, if◌then◌else◌,
-}
+use Rattle.std.specs.Prelude.{Bool, true, false, ◌==◌, ℕ, ◌+◌, ℤ, List, [], ◌∷◌, ◌++◌, Option, Some, None, slice_index}
+use Rattle.std.specs.Prelude.{if◌then◌else◌}
 use Rattle.std.specs.Int.{w32, cast_signed, cast_unsigned}
 use Rattle.geom_core.specs.declared.points.Pt.{Pt}
 use Rattle.geom_core.specs.declared.triangles.Tagged.{Tagged}

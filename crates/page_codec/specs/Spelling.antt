@@ -10,9 +10,8 @@ use Rattle.dag_core.specs.declared.dags.Dag.{Dag}
 use Rattle.dag_core.specs.Pages.{clusters_on}
 use Rattle.dag_core.specs.Ranges.{counts_of}
 use Rattle.dag_core.specs.Triangles.{tris_at}
-use Rattle.page_codec.specs.declared.sizes.TheConstants.{
-  VERSION, HEADER_BYTES, GROUP_BYTES, CLUSTER_BYTES, DIGEST_BYTES,
-}
+use Rattle.page_codec.specs.declared.sizes.TheConstants.{VERSION, HEADER_BYTES, GROUP_BYTES, CLUSTER_BYTES}
+use Rattle.page_codec.specs.declared.sizes.TheConstants.{DIGEST_BYTES}
 use Rattle.page_codec.specs.declared.pages.PageCluster.{PageCluster}
 use Rattle.page_codec.specs.declared.pages.Page.{Page}
 use Rattle.page_codec.specs.declared.directories.Directory.{Directory}

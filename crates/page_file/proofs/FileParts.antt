@@ -11,10 +11,8 @@ use Rattle.dag_core.specs.declared.heads.Heads.{Heads}
 use Rattle.dag_core.specs.declared.dags.Dag.{Dag}
 use Rattle.dag_core.specs.Ranges.{counts_of}
 use Rattle.dag_core.proofs.ListSteps.{range_more}
-use Rattle.page_codec.specs.Spelling.{
-  directory_bytes, directory_digest, directory_in, file_bytes, header_bytes, header_in, page_bytes, page_digest,
-  page_in,
-}
+use Rattle.page_codec.specs.Spelling.{directory_bytes, directory_digest, directory_in, file_bytes, header_bytes}
+use Rattle.page_codec.specs.Spelling.{header_in, page_bytes, page_digest, page_in}
 use Rattle.page_codec.proofs.Homes.{range-append}
 use Rattle.page_file.specs.Internal.PageTexts.{pages_bytes}
 
@@ -76,8 +74,10 @@ pub header-is : (dag : Dag) (counts : Counts) (digest : Digest32) (bytes : List 
     record { version = 1; counts = counts; digest = digest } ≡ header_in dag
 unfolding header_in
 header-is dag counts digest bytes counted same is =
-    let one : digest ≡ record { bytes = directory_digest 1 (counts_of dag.heads)
-        (directory_bytes (directory_in dag)) } =
+    let one : digest ≡ record {
+      bytes = directory_digest 1 (counts_of dag.heads)
+          (directory_bytes (directory_in dag));
+    } =
     ap (λ b. record { bytes = b }) (is ∙ ap (λ k. directory_digest 1 k bytes) counted ∙
-        ap (directory_digest 1 (counts_of dag.heads)) same) in
+    ap (directory_digest 1 (counts_of dag.heads)) same) in
     rw (counted, one) refl

@@ -1,7 +1,6 @@
 -- The number of a group's triangles: at least one, and at most those of eight full clusters.
-use Rattle.std.proofs.Common.{
-  ◌≡◌, ℕ, zero, suc, ◌+◌, ◌*◌, ◌<◌, ◌≤◌, List, [], ◌∷◌, length, get_or, IsTrue, sym, ap, ◌∙◌, arith, add-one,
-}
+use Rattle.std.proofs.Common.{◌≡◌, ℕ, zero, suc, ◌+◌, ◌*◌, ◌<◌, ◌≤◌, List, [], ◌∷◌, length, get_or, IsTrue, sym, ap}
+use Rattle.std.proofs.Common.{◌∙◌, arith, add-one}
 use Rattle.std.specs.List.{range_with_len, sum_by}
 use Rattle.std.proofs.lemmas.Bool.Decides.{nat_tests}
 use Rattle.std.proofs.lemmas.List.Elements.{All-get_or}
@@ -52,7 +51,7 @@ pub cluster_size : (heads : Heads) (c : ℕ) → IsInRange heads → c < length 
     (1 ≤ (cluster_at heads c).tris) × ((cluster_at heads c).tris ≤ 128)
 cluster_size heads c range below =
     count_parts 128 (cluster_at heads c).tris
-        (All-get_or (IsClusterInRange (counts_of heads)) heads.clusters c no_cluster below range.clusters).size
+    (All-get_or (IsClusterInRange (counts_of heads)) heads.clusters c no_cluster below range.clusters).size
 
 pub tris_from-bounds : (heads : Heads) → IsInRange heads → (first count : ℕ) → first + count ≤ length heads.clusters →
     (count ≤ tris_from heads first count) × (tris_from heads first count ≤ 128 * count)
@@ -61,7 +60,7 @@ tris_from-bounds heads range first (suc count) within =
     let before = tris_from-bounds heads range first count (omega arith) in
     let size = cluster_size heads (first + count) range (omega arith) in
     let more : tris_from heads first (suc count) ≡ tris_from heads first count +
-        (cluster_at heads (first + count)).tris =
+    (cluster_at heads (first + count)).tris =
     ap (tris_from heads first) (sym (add-one count)) ∙ tris_from-more heads first count in
     (omega (arith, before.0, size.0, more), omega (arith, before.1, size.1, more))
 
@@ -73,8 +72,8 @@ unfolding group_size
 group_size-bounds heads range kept g below =
     let bounds = group_bounds heads g range below in
     let sums =
-        tris_from-bounds heads range (group_at heads g).first (group_at heads g).count
-        (members_within heads kept g below) in
+    tris_from-bounds heads range (group_at heads g).first (group_at heads g).count
+    (members_within heads kept g below) in
     (omega (arith, sums.0, bounds.some_member), omega (arith, sums.1, bounds.count))
 
 -- a group's size, counted by its members

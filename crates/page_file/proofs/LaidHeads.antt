@@ -1,8 +1,6 @@
 -- Laid-out heads keep the rules of members, makers, terminal groups and bounds: only pages change.
-use Rattle.std.proofs.Common.{
-  ◌≡◌, ℕ, zero, suc, ◌+◌, ◌<◌, ◌≤◌, false, not, cond, List, length, get_or, Option, None, Some, refl, sym, ap, ◌∙◌,
-  subst, inl, inr, arith, add-one, zero-add,
-}
+use Rattle.std.proofs.Common.{◌≡◌, ℕ, zero, suc, ◌+◌, ◌<◌, ◌≤◌, false, not, cond, List, length, get_or, Option, None}
+use Rattle.std.proofs.Common.{Some, refl, sym, ap, ◌∙◌, subst, inl, inr, arith, add-one, zero-add}
 use Rattle.std.specs.List.{range_with_len, sum_by}
 use Rattle.std.proofs.Math.Nat.{eq-or-lt_of_le}
 use Rattle.std.proofs.lemmas.Bool.{cases_lt}
@@ -11,16 +9,12 @@ use Rattle.std.proofs.lemmas.List.FromFn.{get_or-map-range_with_len, length-map-
 use Rattle.dag_core.specs.declared.groups.Group.{Group}
 use Rattle.dag_core.specs.declared.heads.Heads.{Heads}
 use Rattle.dag_core.specs.Members.{no_group, group_at, cluster_at, home}
-use Rattle.dag_core.specs.Rules.{
-  KeepsRulesBelow, breaks_bound, breaks_maker, breaks_members, breaks_terminal, has_made, is_maker_at_most,
-  is_maker_outside, is_outgrown, members_before,
-}
-use Rattle.dag_core.proofs.MemberLaws.{
-  AreMembersInTurn, in_turn, first_is, members_none, members_more, members_are_all, home_below, home_has, home_is,
-}
-use Rattle.dag_core.proofs.RuleLaws.{
-  bound_at, bound_beyond, maker_at, maker_beyond, members_at, members_all, members_beyond, terminal_at, terminal_beyond,
-}
+use Rattle.dag_core.specs.Rules.{KeepsRulesBelow, breaks_bound, breaks_maker, breaks_members, breaks_terminal, has_made}
+use Rattle.dag_core.specs.Rules.{is_maker_at_most, is_maker_outside, is_outgrown, members_before}
+use Rattle.dag_core.proofs.MemberLaws.{AreMembersInTurn, in_turn, first_is, members_none, members_more, members_are_all}
+use Rattle.dag_core.proofs.MemberLaws.{home_below, home_has, home_is}
+use Rattle.dag_core.proofs.RuleLaws.{bound_at, bound_beyond, maker_at, maker_beyond, members_at, members_all}
+use Rattle.dag_core.proofs.RuleLaws.{members_beyond, terminal_at, terminal_beyond}
 use Rattle.page_file.specs.PagesRule.{group_size, page_of_group, laid_group, laid_heads}
 use Rattle.page_file.proofs.GroupSizes.{fewer}
 
@@ -49,8 +43,10 @@ past groups others g beyond also = rw (get_or_past groups g no_group beyond, get
 pub moved : (heads : Heads) (g : ℕ) → IsMoved (group_at heads g) (group_at (laid_heads heads) g)
 moved heads g = elim (cases_lt g (length heads.groups)) [
   | inl below ↦ record { page = page_of_group heads g; same = laid_at heads g below }
-  | inr beyond ↦ record { page = 0; same =
-      past heads.groups (laid_heads heads).groups g beyond (omega (arith, laid_count heads, beyond)) }
+  | inr beyond ↦ record {
+    page = 0;
+    same = past heads.groups (laid_heads heads).groups g beyond (omega (arith, laid_count heads, beyond));
+  }
 ]
 
 pub same_first : (heads : Heads) (g : ℕ) → (group_at (laid_heads heads) g).first ≡ (group_at heads g).first
@@ -71,10 +67,10 @@ same_before heads (suc g) within =
     let e : suc g ≡ g + 1 = sym (add-one g) in
     let count = laid_count heads in
     let more : members_before (laid_heads heads) (suc g) ≡ members_before (laid_heads heads) g +
-        (group_at (laid_heads heads) g).count =
+    (group_at (laid_heads heads) g).count =
     ap (members_before (laid_heads heads)) e ∙ members_more (laid_heads heads) g (omega (arith, count)) in
     let plain : members_before heads (suc g) ≡ members_before heads g + (group_at heads g).count =
-        ap (members_before heads) e ∙ members_more heads g (omega arith) in
+    ap (members_before heads) e ∙ members_more heads g (omega arith) in
     omega (arith, more, plain, same_before heads g (omega arith), same_count heads g)
 
 pub laid_in_turn : (heads : Heads) → AreMembersInTurn heads → AreMembersInTurn (laid_heads heads)
@@ -84,7 +80,7 @@ laid_in_turn heads turn g = elim (cases_lt g (length heads.groups)) [
       (same_first heads g ∙ first_is heads g turn below ∙ sym (same_before heads g (omega arith)))
   | inr from ↦
       let whole : members_before (laid_heads heads) (length (laid_heads heads).groups) ≡ length
-          (laid_heads heads).clusters =
+      (laid_heads heads).clusters =
       ap (members_before (laid_heads heads)) (laid_count heads) ∙ same_before heads (length heads.groups) (omega arith)
       ∙ members_are_all heads turn ∙ sym (ap length (laid_clusters heads)) in
       elim (eq-or-lt_of_le from) [
@@ -102,7 +98,7 @@ same_home heads c turn below =
     let within = home_below heads c turn below in
     home_is (laid_heads heads) (home heads c) c (laid_in_turn heads turn) (omega (arith, laid_count heads, within))
     (omega (arith, has.0, same_first heads (home heads c)))
-        (omega (arith, has.1, same_first heads (home heads c), same_count heads (home heads c)))
+    (omega (arith, has.1, same_first heads (home heads c), same_count heads (home heads c)))
 
 pub same_cluster : (heads : Heads) (c : ℕ) → cluster_at (laid_heads heads) c ≡ cluster_at heads c
 unfolding laid_heads
@@ -156,7 +152,7 @@ laid_bound heads kept c = elim (cases_lt c (length heads.clusters)) [
       let turn = in_turn heads (fewer heads 5 2 (omega arith) kept) in
       bound_at (laid_heads heads) c (omega (arith, ap length (laid_clusters heads), below))
       ∙ ap (λ h. is_maker_outside (laid_heads heads) h (cluster_at (laid_heads heads) c).made)
-          (same_home heads c turn below)
+      (same_home heads c turn below)
       ∙ ap (λ cluster. is_maker_outside (laid_heads heads) (home heads c) cluster.made) (same_cluster heads c)
       ∙ same_outside heads (home heads c) (cluster_at heads c).made
       ∙ sym (bound_at heads c below) ∙ kept 4 c (omega arith)
@@ -168,6 +164,6 @@ pub same_size : (heads : Heads) (g : ℕ) → group_size (laid_heads heads) g �
 unfolding group_size laid_heads
 same_size heads g =
     ap (λ first. sum_by (λ c. (cluster_at heads c).tris) (range_with_len first (group_at (laid_heads heads) g).count))
-        (same_first heads g)
+    (same_first heads g)
     ∙ ap (λ count. sum_by (λ c. (cluster_at heads c).tris) (range_with_len (group_at heads g).first count))
-        (same_count heads g)
+    (same_count heads g)

@@ -1,9 +1,7 @@
 -- Laid-out heads keep the rule of pages: each page has some triangles and not too many, terminal groups stand on root
 -- pages, and no page depends on a later one.
-use Rattle.std.proofs.Common.{
-  ◌≡◌, ℕ, zero, suc, ◌+◌, ◌-◌, ◌<◌, ◌≤◌, Bool, true, false, not, cond, eqb, leb, List, [], ◌++◌, length, filter, refl,
-  sym, ap, ◌∙◌, inl, inr, arith, add-one, zero-add,
-}
+use Rattle.std.proofs.Common.{◌≡◌, ℕ, zero, suc, ◌+◌, ◌-◌, ◌<◌, ◌≤◌, Bool, true, false, not, cond, eqb, leb, List, []}
+use Rattle.std.proofs.Common.{◌++◌, length, filter, refl, sym, ap, ◌∙◌, inl, inr, arith, add-one, zero-add}
 use Rattle.std.specs.List.{range_with_len, sum_by}
 use Rattle.std.proofs.lemmas.Bool.{cases_lt, false≢true}
 use Rattle.std.proofs.lemmas.Bool.Decides.{nat_tests}
@@ -15,14 +13,12 @@ use Rattle.dag_core.specs.Members.{group_at, cluster_at}
 use Rattle.dag_core.specs.Pages.{page_of_cluster, tris_on}
 use Rattle.dag_core.specs.Ranges.{IsInRange}
 use Rattle.dag_core.specs.Rules.{KeepsRulesBelow, members_before}
-use Rattle.dag_core.proofs.MemberLaws.{
-  AreMembersInTurn, in_turn, first_is, home_is, members_none, members_more, members_are_all,
-}
+use Rattle.dag_core.proofs.MemberLaws.{AreMembersInTurn, in_turn, first_is, home_is, members_none, members_more}
+use Rattle.dag_core.proofs.MemberLaws.{members_are_all}
 use Rattle.page_codec.proofs.Homes.{range-append, filter-range}
 use Rattle.page_file.specs.declared.fillings.Filling.{Filling}
-use Rattle.page_file.specs.PagesRule.{
-  place, group_size, is_terminal, root_filling, root_count, other_filling, page_count, page_of_group, laid_heads,
-}
+use Rattle.page_file.specs.PagesRule.{place, group_size, is_terminal, root_filling, root_count, other_filling}
+use Rattle.page_file.specs.PagesRule.{page_count, page_of_group, laid_heads}
 use Rattle.page_file.proofs.GroupSizes.{fewer, group_size-bounds}
 use Rattle.page_file.proofs.LaidHeads.{laid_at, laid_count, laid_in_turn, same_size}
 use Rattle.page_file.proofs.NextFit.{IsPart, placed_if, root_part, other_part, root_filling-more, other_filling-more}
@@ -60,18 +56,18 @@ root-begun : (heads : Heads) (g : ℕ) → is_terminal heads g ≡ true → 1 �
 root-begun heads g terminal some =
     let from = placed-from 0 g (group_size heads g) (root_filling heads g) (root_part heads g) some in
     let more =
-        ap (λ (f : Filling). f.begun) (root_filling-more heads g ∙
-        ap (λ b. placed_if b (group_size heads g) (root_filling heads g)) terminal) in
+    ap (λ (f : Filling). f.begun) (root_filling-more heads g ∙
+    ap (λ b. placed_if b (group_size heads g) (root_filling heads g)) terminal) in
     omega (arith, from, more)
 
 other-begun : (heads : Heads) (g : ℕ) → is_terminal heads g ≡ false → 1 ≤ group_size heads g →
     root_count heads + 1 ≤ (other_filling heads (g + 1)).begun
 other-begun heads g terminal some =
     let from =
-        placed-from (root_count heads) g (group_size heads g) (other_filling heads g) (other_part heads g) some in
+    placed-from (root_count heads) g (group_size heads g) (other_filling heads g) (other_part heads g) some in
     let more =
-        ap (λ (f : Filling). f.begun) (other_filling-more heads g ∙
-        ap (λ b. placed_if (not b) (group_size heads g) (other_filling heads g)) terminal) in
+    ap (λ (f : Filling). f.begun) (other_filling-more heads g ∙
+    ap (λ b. placed_if (not b) (group_size heads g) (other_filling heads g)) terminal) in
     omega (arith, from, more)
 
 root-rises : (heads : Heads) (n later : ℕ) → n ≤ later → (root_filling heads n).begun ≤ (root_filling heads later).begun
@@ -96,8 +92,13 @@ page_count-is heads = refl
 pub root-below : (heads : Heads) (g : ℕ) → g < length heads.groups → is_terminal heads g ≡ true →
     1 ≤ group_size heads g → page_of_group heads g < root_count heads
 root-below heads g below terminal some =
-    omega (arith, root-page heads g terminal, root-begun heads g terminal some,
-        root-rises heads (g + 1) (length heads.groups) (omega (arith, below)), root_count-is heads)
+    omega (
+      arith,
+      root-page heads g terminal,
+      root-begun heads g terminal some,
+      root-rises heads (g + 1) (length heads.groups) (omega (arith, below)),
+      root_count-is heads,
+    )
 
 -- any other group is on a page after them
 pub other-from : (heads : Heads) (g : ℕ) → is_terminal heads g ≡ false → 1 ≤ group_size heads g →
@@ -107,15 +108,24 @@ other-from heads g terminal some = omega (arith, other-page heads g terminal, ot
 pub other-below : (heads : Heads) (g : ℕ) → g < length heads.groups → is_terminal heads g ≡ false →
     1 ≤ group_size heads g → page_of_group heads g < page_count heads
 other-below heads g below terminal some =
-    omega (arith, other-page heads g terminal, other-begun heads g terminal some,
-        other-rises heads (g + 1) (length heads.groups) (omega (arith, below)), page_count-is heads)
+    omega (
+      arith,
+      other-page heads g terminal,
+      other-begun heads g terminal some,
+      other-rises heads (g + 1) (length heads.groups) (omega (arith, below)),
+      page_count-is heads,
+    )
 
 -- of two groups that are not terminal the greater has no lesser page
 pub other-order : (heads : Heads) (g later : ℕ) → g ≤ later → is_terminal heads g ≡ false →
     is_terminal heads later ≡ false → page_of_group heads g ≤ page_of_group heads later
 other-order heads g later before here there =
-    omega (arith, other-page heads g here, other-page heads later there,
-        other-rises heads (g + 1) (later + 1) (omega (arith, before)))
+    omega (
+      arith,
+      other-page heads g here,
+      other-page heads later there,
+      other-rises heads (g + 1) (later + 1) (omega (arith, before)),
+    )
 
 pub roots-first : (heads : Heads) → root_count heads ≤ page_count heads
 roots-first heads = let known = other_part heads (length heads.groups) in omega (arith, known.from, page_count-is heads)
@@ -154,8 +164,13 @@ pages-so-far heads (suc n) =
     let e : suc n ≡ n + 1 = sym (add-one n) in
     let root = ap (λ (f : Filling). f.begun) (ap (root_filling heads) e ∙ root_filling-more heads n) in
     let other = ap (λ (f : Filling). f.begun) (ap (other_filling heads) e ∙ other_filling-more heads n) in
-    omega (arith, root, other, pages-step (root_filling heads n) (other_filling heads n) (group_size heads n) n
-        (root_count heads) (is_terminal heads n) (pages-so-far heads n))
+    omega (
+      arith,
+      root,
+      other,
+      pages-step (root_filling heads n) (other_filling heads n) (group_size heads n) n
+          (root_count heads) (is_terminal heads n) (pages-so-far heads n),
+    )
 
 pub page_count-le : (heads : Heads) → page_count heads ≤ length heads.groups
 page_count-le heads = omega (arith, pages-so-far heads (length heads.groups), root_count-is heads, page_count-is heads)
@@ -188,8 +203,8 @@ members-size : (heads : Heads) (g : ℕ) → AreMembersInTurn (laid_heads heads)
 unfolding group_size
 members-size heads g turn below =
     ap (λ first. sum_by (λ c. (cluster_at (laid_heads heads) c).tris)
-        (range_with_len first (group_at (laid_heads heads) g).count))
-        (sym (first_is (laid_heads heads) g turn (omega (arith, below, laid_count heads))))
+    (range_with_len first (group_at (laid_heads heads) g).count))
+    (sym (first_is (laid_heads heads) g turn (omega (arith, below, laid_count heads))))
     ∙ same_size heads g
 
 -- those of the members of the first g groups that are on page p
@@ -199,8 +214,8 @@ tris-up-to : (heads : Heads) → AreMembersInTurn (laid_heads heads) → (p g : 
     (range_with_len 0 (members_before (laid_heads heads) g))) ≡ both heads p g
 tris-up-to heads turn p zero within =
     ap (λ n. sum_by (λ c. (cluster_at (laid_heads heads) c).tris)
-        (filter (λ c. eqb (page_of_cluster (laid_heads heads) c) p) (range_with_len 0 n)))
-        (members_none (laid_heads heads))
+    (filter (λ c. eqb (page_of_cluster (laid_heads heads) c) p) (range_with_len 0 n)))
+    (members_none (laid_heads heads))
 tris-up-to heads turn p (suc g) within =
     let laid = laid_heads heads in
     let f : ℕ → ℕ = λ c. (cluster_at laid c).tris in
@@ -211,19 +226,19 @@ tris-up-to heads turn p (suc g) within =
     let inside : g < length laid.groups = omega (arith, below, laid_count heads) in
     let first = first_is laid g turn inside in
     let more : members_before laid (suc g) ≡ m + k =
-        ap (members_before laid) (sym (add-one g)) ∙ members_more laid g inside in
+    ap (members_before laid) (sym (add-one g)) ∙ members_more laid g inside in
     let here : (c : ℕ) → m ≤ c → c < m + k → on c ≡ eqb (page_of_group heads g) p = λ c from to.
     ap (λ h. eqb (group_at laid h).page p) (home_is laid g c turn inside (omega (arith, first, from))
-        (omega (arith, first, to)))
+    (omega (arith, first, to)))
     ∙ ap (λ (group : Group). eqb group.page p) (laid_at heads g below) in
     let tail : sum_by f (filter on (range_with_len m k)) ≡ share (page_of_group heads g) (group_size heads g) p =
     ap (sum_by f) (filter-range on (eqb (page_of_group heads g) p) m k here)
     ∙ sum-if f (range_with_len m k) (eqb (page_of_group heads g) p)
     ∙ ap (λ n. cond (eqb (page_of_group heads g) p) n 0) (members-size heads g turn below) in
     let split : sum_by f (filter on (range_with_len 0 (m + k))) ≡ sum_by f (filter on (range_with_len 0 m)) + sum_by f
-        (filter on (range_with_len m k)) =
+    (filter on (range_with_len m k)) =
     ap (λ xs. sum_by f (filter on xs)) (range-append 0 m k ∙
-        ap (λ a. range_with_len 0 m ++ range_with_len a k) (zero-add m))
+    ap (λ a. range_with_len 0 m ++ range_with_len a k) (zero-add m))
     ∙ ap (sum_by f) (filter-append on (range_with_len 0 m) (range_with_len m k))
     ∙ sum_by-append f (filter on (range_with_len 0 m)) (filter on (range_with_len m k)) in
     ap (λ n. sum_by f (filter on (range_with_len 0 n))) more ∙ split
@@ -238,7 +253,7 @@ tris_on-laid heads turn p =
     let whole : members_before laid (length heads.groups) ≡ length laid.clusters =
     ap (members_before laid) (sym (laid_count heads)) ∙ members_are_all laid (laid_in_turn heads turn) in
     ap (λ n. sum_by (λ c. (cluster_at laid c).tris) (filter (λ c. eqb (page_of_cluster laid c) p) (range_with_len 0 n)))
-        (sym whole)
+    (sym whole)
     ∙ tris-up-to heads (laid_in_turn heads turn) p (length heads.groups) (omega arith)
 
 -- ---- each page has some triangles, and not too many

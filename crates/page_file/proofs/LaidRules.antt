@@ -1,8 +1,7 @@
 -- Laid-out heads keep all their rules and ranges, so a laid-out DAG is laid out.
-use Rattle.std.proofs.Common.{
-  ◌≡◌, ◌==◌, ℕ, zero, suc, ◌<◌, ◌≤◌, Bool, true, false, not, ◌&&◌, ◌||◌, cond, List, [], ◌∷◌, length, map, get_or,
-  Option, None, Some, IsTrue, refl, sym, ap, ◌∙◌, subst, inl, inr, arith, nat_lt,
-}
+use Rattle.std.proofs.Common.{◌≡◌, ◌==◌, ℕ, zero, suc, ◌<◌, ◌≤◌, Bool, true, false, not, ◌&&◌, ◌||◌, cond, List, []}
+use Rattle.std.proofs.Common.{◌∷◌, length, map, get_or, Option, None, Some, IsTrue, refl, sym, ap, ◌∙◌, subst, inl, inr}
+use Rattle.std.proofs.Common.{arith, nat_lt}
 use Rattle.std.specs.List.{All, list_any, range_with_len}
 use Rattle.std.proofs.lemmas.Bool.{cases_lt, and_parts, true≢false, false≢true}
 use Rattle.std.proofs.lemmas.Bool.Decides.{nat_tests}
@@ -25,16 +24,13 @@ use Rattle.dag_core.proofs.RuleLaws.{maker_at, page_at, page_beyond, terminal_at
 use Rattle.dag_core.proofs.TableLaws.{has_later_upper-is, is_made_for_later}
 use Rattle.dag_core.proofs.TwoSquaresLaws.{checked_from}
 use Rattle.dag_core.proofs.UpperLaws.{later_upper}
-use Rattle.page_file.specs.PagesRule.{
-  is_terminal, root_count, page_count, page_of_group, laid_group, laid_heads, laid_out,
-}
+use Rattle.page_file.specs.PagesRule.{is_terminal, root_count, page_count, page_of_group, laid_group, laid_heads}
+use Rattle.page_file.specs.PagesRule.{laid_out}
 use Rattle.page_file.proofs.GroupSizes.{fewer, group_size-bounds}
-use Rattle.page_file.proofs.LaidHeads.{
-  laid_at, laid_bound, laid_clusters, laid_count, laid_in_turn, laid_maker, laid_terminal, same_cluster, same_home,
-}
-use Rattle.page_file.proofs.LaidPages.{
-  other-from, other-order, page-below, page-fits, page_count-le, root-below, roots-first,
-}
+use Rattle.page_file.proofs.LaidHeads.{laid_at, laid_bound, laid_clusters, laid_count, laid_in_turn, laid_maker}
+use Rattle.page_file.proofs.LaidHeads.{laid_terminal, same_cluster, same_home}
+use Rattle.page_file.proofs.LaidPages.{other-from, other-order, page-below, page-fits, page_count-le, root-below}
+use Rattle.page_file.proofs.LaidPages.{roots-first}
 
 -- ---- makers
 
@@ -63,7 +59,7 @@ maker_inner : (heads : Heads) → KeepsRulesBelow 5 heads → (m : ℕ) → m < 
     is_terminal heads m ≡ false
 maker_inner heads kept m below made =
     by (is_terminal heads m) (sym (ap (λ b. cond (is_terminal heads m) b (not b)) made) ∙
-        sym (terminal_at heads m below) ∙ kept 3 m (omega arith))
+    sym (terminal_at heads m below) ∙ kept 3 m (omega arith))
   where
     by : (b : Bool) → cond b true false ≡ false → b ≡ false
     by true rule = absurd (true≢false rule)
@@ -106,14 +102,14 @@ unfolding has_made
 first_made heads kept made =
     let found = found_in (is_made_by 0) heads.clusters made in
     let before =
-        home_before heads kept found.place 0 found.below
-        (made_by_group 0 (cluster_at heads found.place).made found.passes) in
+    home_before heads kept found.place 0 found.below
+    (made_by_group 0 (cluster_at heads found.place).made found.passes) in
     omega (arith, before)
 
 first_terminal : (heads : Heads) → KeepsRulesBelow 5 heads → 0 < length heads.groups → is_terminal heads 0 ≡ true
 first_terminal heads kept some =
     by (is_terminal heads 0) (has_made heads 0) (sym (terminal_at heads 0 some) ∙ kept 3 0 (omega arith))
-        (first_made heads kept)
+    (first_made heads kept)
   where
     by : (terminal made : Bool) → cond terminal made (not made) ≡ false → (made ≡ true → ⊥) → terminal ≡ true
     by true made rule none = refl
@@ -124,8 +120,11 @@ pub some_root : (heads : Heads) → IsInRange heads → KeepsRulesBelow 5 heads 
 some_root heads range kept =
     let sizes = sizes_of heads range in
     let below : 0 < length heads.groups = omega (arith, sizes.some_group) in
-    omega (arith, root-below heads 0 below (first_terminal heads kept below)
-        (group_size-bounds heads range kept 0 below).0)
+    omega (
+      arith,
+      root-below heads 0 below (first_terminal heads kept below)
+          (group_size-bounds heads range kept 0 below).0,
+    )
 
 -- ---- terminal groups stand on root pages
 
@@ -143,7 +142,7 @@ root_only heads range kept p beyond =
     let below : g < length heads.groups = omega (arith, within, laid_count heads) in
     ap (λ (group : Group). group.terminal && group.page == p) (laid_at heads g below)
     ∙ by (is_terminal heads g) (page_of_group heads g)
-        (λ is. root-below heads g below is (group_size-bounds heads range kept g below).0))
+    (λ is. root-below heads g below is (group_size-bounds heads range kept g below).0))
   where
     by : (b : Bool) (page : ℕ) → (b ≡ true → page < root_count heads) → (b && page == p) ≡ false
     by true page lower = let less = lower refl in grind (arith, nat_tests)
@@ -187,22 +186,22 @@ none_later heads range kept p = by (has_later_upper (laid_heads heads) p) refl
         let laid = laid_heads heads in
         let turn = in_turn heads (fewer heads 5 2 (omega arith) kept) in
         let found =
-            range_found (is_made_for_later laid p) (length laid.clusters) (sym (has_later_upper-is laid p) ∙ is) in
+        range_found (is_made_for_later laid p) (length laid.clusters) (sym (has_later_upper-is laid p) ∙ is) in
         let c = found.number in
         let below : c < length heads.clusters = omega (arith, found.below, ap length (laid_clusters heads)) in
         let parts =
-            and_parts (is_maker_on laid p (cluster_at laid c).made) (nat_lt p (page_of_cluster laid c)) found.passes in
+        and_parts (is_maker_on laid p (cluster_at laid c).made) (nat_lt p (page_of_cluster laid c)) found.passes in
         let by_group = made_on laid p (cluster_at laid c).made parts.0 in
         let made : (cluster_at heads c).made ≡ Some by_group.group =
-            sym (ap (λ (cluster : ClusterHead). cluster.made) (same_cluster heads c)) ∙ by_group.is in
+        sym (ap (λ (cluster : ClusterHead). cluster.made) (same_cluster heads c)) ∙ by_group.is in
         let m_below = maker_below heads c by_group.group range below made in
         let order = maker_page heads range kept c by_group.group below made in
         let h_below = home_below heads c turn below in
         let upper : page_of_cluster laid c ≡ page_of_group heads (home heads c) =
         ap (λ h. (group_at laid h).page) (same_home heads c turn below) ∙
-            ap (λ (group : Group). group.page) (laid_at heads (home heads c) h_below) in
+        ap (λ (group : Group). group.page) (laid_at heads (home heads c) h_below) in
         let lower : page_of_group heads by_group.group ≡ p =
-            sym (ap (λ (group : Group). group.page) (laid_at heads by_group.group m_below)) ∙ by_group.page in
+        sym (ap (λ (group : Group). group.page) (laid_at heads by_group.group m_below)) ∙ by_group.page in
         let later : p < page_of_cluster laid c = later_is p (page_of_cluster laid c) parts.1 in
         absurd (omega (arith, order, upper, lower, later))
 
@@ -278,7 +277,7 @@ laid_range heads range kept = record {
       (groups_in_range heads range kept);
   clusters = subst (λ counts. All (IsClusterInRange counts) (laid_heads heads).clusters) (sym (laid_counts heads))
       (subst (All (IsClusterInRange (record (counts_of heads) { pages = page_count heads; roots = root_count heads })))
-          (sym (laid_clusters heads)) (clusters_in_range heads range));
+      (sym (laid_clusters heads)) (clusters_in_range heads range));
 }
 
 -- ---- rule 5
@@ -307,7 +306,7 @@ laid_page heads range kept p =
           let fits = page-fits heads range kept p below in
           page_at laid p (omega (arith, below, counts.0))
           ∙ good_page laid.roots p (tris_on laid p) (has_terminal_on laid p)
-              (list_any (nat_lt p) (uppers_of laid p)) fits.0 fits.1
+          (list_any (nat_lt p) (uppers_of laid p)) fits.0 fits.1
           (λ from. root_only heads range kept p (omega (arith, from, counts.1)))
           (sym (later_upper laid p (laid_range heads range kept) turn) ∙ none_later heads range kept p)
       | inr beyond ↦ page_beyond laid p (omega (arith, beyond, counts.0))
@@ -316,7 +315,7 @@ laid_page heads range kept p =
 pub laid_checked : (heads : Heads) → IsInRange heads → KeepsRulesBelow 5 heads → Checked (laid_heads heads)
 laid_checked heads range kept =
     checked_from (laid_heads heads) (laid_in_turn heads (in_turn heads (fewer heads 5 2 (omega arith) kept)))
-        (laid_maker heads kept) (laid_terminal heads kept) (laid_bound heads kept)
+    (laid_maker heads kept) (laid_terminal heads kept) (laid_bound heads kept)
     (laid_page heads range kept)
 
 -- ---- the DAG
@@ -340,13 +339,25 @@ laid_dag dag can = record {
 pub laid_parts : (dag : Dag) (groups : List Group) (pages roots : ℕ) →
     groups ≡ map (laid_group dag.heads) (range_with_len 0 (length dag.heads.groups)) →
     pages ≡ page_count dag.heads → roots ≡ root_count dag.heads →
-    record { heads = record { groups = groups; clusters = dag.heads.clusters; pages = pages; roots = roots; sources =
-    dag.heads.sources }; tris = dag.tris } ≡ laid_out dag
+    record {
+      heads = record {
+        groups = groups;
+        clusters = dag.heads.clusters;
+        pages = pages;
+        roots = roots;
+        sources = dag.heads.sources;
+      };
+      tris = dag.tris;
+    } ≡ laid_out dag
 unfolding laid_heads
 laid_parts dag groups pages roots groups_are pages_are roots_are = rw (groups_are, pages_are, roots_are) refl
 
 -- a laid-out DAG can be laid out again
 pub can_again : (dag : Dag) → IsLaidOut dag → CanBeLaidOut dag
 can_again dag laid =
-    record { range = laid.range; rules = λ rule index _. laid.rules rule index; counts = laid.counts; triangles =
-    laid.triangles }
+    record {
+      range = laid.range;
+      rules = λ rule index _. laid.rules rule index;
+      counts = laid.counts;
+      triangles = laid.triangles;
+    }

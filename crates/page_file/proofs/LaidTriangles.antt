@@ -1,17 +1,14 @@
 -- Laying out changes no triangle: each rule of the triangles holds as before, and the source mesh stays.
-use Rattle.std.proofs.Common.{
-  ◌≡◌, ◌==◌, ℕ, Bool, true, false, not, ◌&&◌, length, Option, None, Some, cond, refl, ap, ◌∙◌, nat_lt,
-}
+use Rattle.std.proofs.Common.{◌≡◌, ◌==◌, ℕ, Bool, true, false, not, ◌&&◌, length, Option, None, Some, cond, refl, ap}
+use Rattle.std.proofs.Common.{◌∙◌, nat_lt}
 use Rattle.std.specs.List.{list_all, range_with_len}
 use Rattle.dag_core.specs.declared.groups.Group.{Group}
 use Rattle.dag_core.specs.declared.heads.Heads.{Heads}
 use Rattle.dag_core.specs.declared.dags.Dag.{Dag}
 use Rattle.dag_core.specs.Members.{group_at, cluster_at, made_by}
 use Rattle.dag_core.specs.Triangles.{source_of, tris_at, tris_in}
-use Rattle.dag_core.specs.TriangleRules.{
-  CanBeLaidOut, Sound, breaks_corners, breaks_source, breaks_sums, dag_breaks, error_of, error_of_maker, have_same_sums,
-  is_near_source,
-}
+use Rattle.dag_core.specs.TriangleRules.{CanBeLaidOut, Sound, breaks_corners, breaks_source, breaks_sums, dag_breaks}
+use Rattle.dag_core.specs.TriangleRules.{error_of, error_of_maker, have_same_sums, is_near_source}
 use Rattle.geom_core.specs.TaggedLists.{tris_of}
 use Rattle.page_file.specs.PagesRule.{laid_heads, laid_out}
 use Rattle.page_file.proofs.LaidHeads.{laid_count, moved, same_count, same_first, same_terminal}
@@ -25,7 +22,7 @@ same_source dag = refl
 abbrev sums_at : Dag → ℕ → ℕ → Bool → ℕ → ℕ → Bool
 sums_at dag g groups terminal first count =
     nat_lt g groups && (not terminal && not (have_same_sums (tris_of (tris_in dag (range_with_len first count)))
-        (tris_of (tris_in dag (made_by dag.heads g)))))
+    (tris_of (tris_in dag (made_by dag.heads g)))))
 
 same_sums : (dag : Dag) (g : ℕ) → breaks_sums (laid_out dag) g ≡ breaks_sums dag g
 unfolding breaks_sums laid_heads
@@ -34,9 +31,9 @@ same_sums dag g =
     ap (λ n. sums_at dag g n laid.terminal laid.first laid.count) (laid_count dag.heads)
     ∙ ap (λ b. sums_at dag g (length dag.heads.groups) b laid.first laid.count) (same_terminal dag.heads g)
     ∙ ap (λ n. sums_at dag g (length dag.heads.groups) (group_at dag.heads g).terminal n laid.count)
-        (same_first dag.heads g)
+    (same_first dag.heads g)
     ∙ ap (λ n. sums_at dag g (length dag.heads.groups) (group_at dag.heads g).terminal (group_at dag.heads g).first n)
-        (same_count dag.heads g)
+    (same_count dag.heads g)
 
 same_sources : (dag : Dag) (k : ℕ) → breaks_source (laid_out dag) k ≡ breaks_source dag k
 unfolding breaks_source laid_heads
@@ -54,9 +51,9 @@ same_corners : (dag : Dag) (c : ℕ) → breaks_corners (laid_out dag) c ≡ bre
 unfolding breaks_corners laid_heads
 same_corners dag c =
     ap (λ test. nat_lt c (length dag.heads.clusters) && not (list_all test (tris_at dag c)))
-        (same_near dag (error_of (laid_heads dag.heads) c))
+    (same_near dag (error_of (laid_heads dag.heads) c))
     ∙ ap (λ most. nat_lt c (length dag.heads.clusters) && not (list_all (is_near_source dag most) (tris_at dag c)))
-        (same_error dag.heads (cluster_at dag.heads c).made)
+    (same_error dag.heads (cluster_at dag.heads c).made)
 
 by_rule : (b c d : Bool) (x x' y y' z z' : Bool) → x ≡ x' → y ≡ y' → z ≡ z' →
     cond b x (cond c y (cond d z false)) ≡ cond b x' (cond c y' (cond d z' false))
@@ -68,7 +65,7 @@ by_rule false false false x x' y y' z z' first second third = refl
 pub same_rules : (dag : Dag) (rule index : ℕ) → dag_breaks rule (laid_out dag) index ≡ dag_breaks rule dag index
 same_rules dag rule index =
     by_rule (rule == 6) (rule == 7) (rule == 8) _ _ _ _ _ _ (same_sums dag index) (same_sources dag index)
-        (same_corners dag index)
+    (same_corners dag index)
 
 pub stays_sound : (dag : Dag) → CanBeLaidOut dag → ((rule index : ℕ) → dag_breaks rule dag index ≡ false) →
     Sound (laid_out dag)

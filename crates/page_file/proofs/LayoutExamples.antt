@@ -4,9 +4,8 @@ use Rattle.dag_core.specs.declared.groups.Group.{Group}
 use Rattle.dag_core.specs.declared.heads.Heads.{Heads}
 use Rattle.dag_core.specs.Members.{no_group}
 use Rattle.dag_core.proofs.TwoSquares.{two_squares_heads}
-use Rattle.page_file.specs.PagesRule.{
-  place, fill, closed_at, group_size, root_filling, other_filling, root_count, page_count, page_of_group, laid_heads,
-}
+use Rattle.page_file.specs.PagesRule.{place, fill, closed_at, group_size, root_filling, other_filling, root_count}
+use Rattle.page_file.specs.PagesRule.{page_count, page_of_group, laid_heads}
 
 -- ---- next fit: 1,024 and 614 triangles fill a page, and one more begins the next
 

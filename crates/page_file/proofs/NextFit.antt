@@ -1,8 +1,6 @@
 -- Next fit: how many triangles are on each page that a part has begun.
-use Rattle.std.proofs.Common.{
-  ◌≡◌, ℕ, zero, suc, ◌+◌, ◌-◌, ◌≤◌, Bool, true, false, not, cond, leb, List, [], ◌∷◌, ◌++◌, length, map, filter, refl,
-  sym, ap, ◌∙◌, subst, inl, inr, arith, add-one,
-}
+use Rattle.std.proofs.Common.{◌≡◌, ℕ, zero, suc, ◌+◌, ◌-◌, ◌≤◌, Bool, true, false, not, cond, leb, List, [], ◌∷◌, ◌++◌}
+use Rattle.std.proofs.Common.{length, map, filter, refl, sym, ap, ◌∙◌, subst, inl, inr, arith, add-one}
 use Rattle.std.specs.List.{range_with_len}
 use Rattle.std.proofs.lemmas.Bool.{cases_eq}
 use Rattle.std.proofs.lemmas.Bool.Decides.{nat_tests}
@@ -11,9 +9,8 @@ use Rattle.std.proofs.lemmas.List.Elements.{filter-append}
 use Rattle.dag_core.specs.declared.heads.Heads.{Heads}
 use Rattle.dag_core.proofs.ListSteps.{range_more}
 use Rattle.page_file.specs.declared.fillings.Filling.{Filling}
-use Rattle.page_file.specs.PagesRule.{
-  place, fill, closed_at, group_size, is_terminal, sizes_of, root_filling, root_count, other_filling, page_count,
-}
+use Rattle.page_file.specs.PagesRule.{place, fill, closed_at, group_size, is_terminal, sizes_of, root_filling}
+use Rattle.page_file.specs.PagesRule.{root_count, other_filling, page_count}
 
 fill-append : (filling : Filling) (xs ys : List ℕ) → fill filling (xs ++ ys) ≡ fill (fill filling xs) ys
 fill-append filling [] ys = refl
@@ -97,7 +94,7 @@ root_part heads (suc n) =
     let e : suc n ≡ n + 1 = sym (add-one n) in
     subst (λ k. IsPart 0 k (root_filling heads k)) (sym e)
     (subst (IsPart 0 (n + 1)) (sym (root_filling-more heads n))
-        (IsPart-placed_if 0 n (group_size heads n) (root_filling heads n) (is_terminal heads n) (root_part heads n)))
+    (IsPart-placed_if 0 n (group_size heads n) (root_filling heads n) (is_terminal heads n) (root_part heads n)))
 
 pub other_part : (heads : Heads) (n : ℕ) → IsPart (root_count heads) n (other_filling heads n)
 unfolding other_filling
@@ -107,7 +104,7 @@ other_part heads (suc n) =
     subst (λ k. IsPart (root_count heads) k (other_filling heads k)) (sym e)
     (subst (IsPart (root_count heads) (n + 1)) (sym (other_filling-more heads n))
     (IsPart-placed_if (root_count heads) n (group_size heads n) (other_filling heads n) (not (is_terminal heads n))
-        (other_part heads n)))
+    (other_part heads n)))
 
 pub root_count-le : (heads : Heads) → root_count heads ≤ length heads.groups
 unfolding root_count

@@ -1,8 +1,6 @@
 -- How many triangles next fit puts on each page of a part.
-use Rattle.std.proofs.Common.{
-  ◌≡◌, ℕ, zero, suc, ◌+◌, ◌-◌, ◌<◌, ◌≤◌, Bool, true, false, cond, eqb, leb, refl, sym, ap, ◌∙◌, subst, inl, inr, arith,
-  add-one,
-}
+use Rattle.std.proofs.Common.{◌≡◌, ℕ, zero, suc, ◌+◌, ◌-◌, ◌<◌, ◌≤◌, Bool, true, false, cond, eqb, leb, refl, sym, ap}
+use Rattle.std.proofs.Common.{◌∙◌, subst, inl, inr, arith, add-one}
 use Rattle.std.proofs.lemmas.Bool.{cases_eq}
 use Rattle.std.proofs.lemmas.Bool.Decides.{nat_tests}
 use Rattle.dag_core.specs.declared.heads.Heads.{Heads}
@@ -50,20 +48,34 @@ fits start load begun room size page loaded some room_for is =
       from = loaded.from;
       none = λ same. absurd (omega (arith, same, begins));
       before =
-          λ p below. omega (arith, loaded.before p below,
-          share-none page size p (λ e. omega (arith, e, is, begins, below)));
+          λ p below. omega (
+            arith,
+            loaded.before p below,
+            share-none page size p (λ e. omega (arith, e, is, begins, below)),
+          );
       after =
-          λ p beyond. omega (arith, loaded.after p beyond,
-          share-none page size p (λ e. omega (arith, e, is, begins, beyond)));
+          λ p beyond. omega (
+            arith,
+            loaded.after p beyond,
+            share-none page size p (λ e. omega (arith, e, is, begins, beyond)),
+          );
       some = λ p above below. omega (arith, loaded.some p above below);
       most = λ p above below. elim (cases_eq page p) [
-        | inl here ↦ omega (arith, loaded.last p above (omega (arith, is, here, begins)), share-here page size p here,
-            room_for)
+        | inl here ↦ omega (
+          arith,
+          loaded.last p above (omega (arith, is, here, begins)),
+          share-here page size p here,
+          room_for,
+        )
         | inr other ↦ omega (arith, loaded.most p above below, share-none page size p other)
       ];
       last =
-          λ p above end. omega (arith, loaded.last p above end, share-here page size p (omega (arith, is, end)),
-          room_for);
+          λ p above end. omega (
+            arith,
+            loaded.last p above end,
+            share-here page size p (omega (arith, is, end)),
+            room_for,
+          );
     }
 
 -- a group that begins a page
@@ -76,11 +88,17 @@ begins start load begun room size page loaded some most is =
       from = omega (arith, loaded.from);
       none = λ same. absurd (omega (arith, same, loaded.from));
       before =
-          λ p below. omega (arith, loaded.before p below,
-          share-none page size p (λ e. omega (arith, e, is, loaded.from, below)));
+          λ p below. omega (
+            arith,
+            loaded.before p below,
+            share-none page size p (λ e. omega (arith, e, is, loaded.from, below)),
+          );
       after =
-          λ p beyond. omega (arith, loaded.after p (omega (arith, beyond)),
-          share-none page size p (λ e. omega (arith, e, is, beyond)));
+          λ p beyond. omega (
+            arith,
+            loaded.after p (omega (arith, beyond)),
+            share-none page size p (λ e. omega (arith, e, is, beyond)),
+          );
       some = λ p above below. elim (cases_eq page p) [
         | inl here ↦ omega (arith, share-here page size p here, some)
         | inr other ↦ let inside : p < begun = grind (arith, nat_tests) in omega (arith, loaded.some p above inside)
@@ -91,8 +109,12 @@ begins start load begun room size page loaded some most is =
             grind (arith, nat_tests) in omega (arith, loaded.most p above inside, share-none page size p other)
       ];
       last =
-          λ p above end. omega (arith, loaded.after p (omega (arith, end)),
-          share-here page size p (omega (arith, is, end)), most);
+          λ p above end. omega (
+            arith,
+            loaded.after p (omega (arith, end)),
+            share-here page size p (omega (arith, is, end)),
+            most,
+          );
     }
 
 -- what placing does, by the test
@@ -167,7 +189,7 @@ loaded start test heads page (suc n) placed =
     ∙ ap (λ b. (placed_if b (group_size heads n) (part start test heads n)).begun - 1) is in
     subst (IsLoaded start (λ p. load test page (group_size heads) p (suc n))) (sym more)
     (IsLoaded-step start (λ p. load test page (group_size heads) p n) (part start test heads n) (group_size heads n)
-        (page n) (test n) before
+    (page n) (test n) before
     (placed.some n (omega arith)) (placed.most n (omega arith)) page_is)
 
 place-rises : (filling : Filling) (size : ℕ) → filling.begun ≤ (place filling size).begun
@@ -193,11 +215,11 @@ part-rises start test heads n (suc more) =
     let step = ap (λ (f : Filling). f.begun) (fill-more (closed_at start) test heads (n + more)) in
     let rise = placed-rises (part start test heads (n + more)) (group_size heads (n + more)) (test (n + more)) in
     subst (λ k. (part start test heads n).begun ≤ (part start test heads k).begun) (sym e)
-        (omega (arith, part-rises start test heads n more, step, rise))
+    (omega (arith, part-rises start test heads n more, step, rise))
 
 pub part-rises-to : (start : ℕ) (test : ℕ → Bool) (heads : Heads) (n later : ℕ) → n ≤ later →
     (part start test heads n).begun ≤ (part start test heads later).begun
 part-rises-to start test heads n later before =
     let e : n + (later - n) ≡ later = omega (arith, before) in
     subst (λ k. (part start test heads n).begun ≤ (part start test heads k).begun) e
-        (part-rises start test heads n (later - n))
+    (part-rises start test heads n (later - n))

@@ -1,7 +1,6 @@
 -- The first broken rule of heads, found among all indices, and what keeps the ranges of counts.
-use Rattle.std.proofs.Common.{
-  ◌≡◌, ℕ, zero, suc, ◌+◌, ◌<◌, ◌≤◌, Bool, true, false, None, Some, refl, ap, ◌∙◌, arith, inl, inr,
-}
+use Rattle.std.proofs.Common.{◌≡◌, ℕ, zero, suc, ◌+◌, ◌<◌, ◌≤◌, Bool, true, false, None, Some, refl, ap, ◌∙◌, arith}
+use Rattle.std.proofs.Common.{inl, inr}
 use Rattle.std.specs.List.{find, range_with_len}
 use Rattle.std.specs.Option.{option_map}
 use Rattle.std.proofs.Math.Nat.{eq-or-lt_of_le}
@@ -48,7 +47,7 @@ rule-broken : (heads : Heads) (rule i : ℕ) → i < places heads → breaks rul
 unfolding rule_fault
 rule-broken heads rule i below broken before =
     ap (option_map (λ index. Rule rule index))
-        (find-first (breaks rule heads) 0 (places heads) i (omega arith) (omega (arith, below)) broken before)
+    (find-first (breaks rule heads) 0 (places heads) i (omega arith) (omega (arith, below)) broken before)
 
 -- ---- all five
 
@@ -58,8 +57,13 @@ no_rule rule heads i past = grind (arith, nat_tests)
 pub rules-kept : (heads : Heads) → Checked heads → rules_fault heads ≡ None
 unfolding rules_fault
 rules-kept heads checked =
-    rw (rule-kept heads 1 (checked 1), rule-kept heads 2 (checked 2), rule-kept heads 3 (checked 3),
-        rule-kept heads 4 (checked 4), rule-kept heads 5 (checked 5)) refl
+    rw (
+      rule-kept heads 1 (checked 1),
+      rule-kept heads 2 (checked 2),
+      rule-kept heads 3 (checked 3),
+      rule-kept heads 4 (checked 4),
+      rule-kept heads 5 (checked 5),
+    ) refl
 
 pub rules-broken : (heads : Heads) (rule i : ℕ) → IsFirstBreak heads rule i → rules_fault heads ≡ Some (Rule rule i)
 unfolding rules_fault
@@ -69,13 +73,17 @@ rules-broken heads (suc zero) i first =
     rw (rule-broken heads 1 i below first.broken first.first_index) refl
 rules-broken heads (suc (suc zero)) i first =
     let below = below-places heads 2 i (λ past far. maker_beyond heads past (omega arith)) first.broken in
-    rw (rule-kept heads 1 (λ j. first.first_rule 1 j (omega arith)),
-        rule-broken heads 2 i below first.broken first.first_index) refl
+    rw (
+      rule-kept heads 1 (λ j. first.first_rule 1 j (omega arith)),
+      rule-broken heads 2 i below first.broken first.first_index,
+    ) refl
 rules-broken heads (suc (suc (suc zero))) i first =
     let below = below-places heads 3 i (λ past far. terminal_beyond heads past (omega arith)) first.broken in
-    rw (rule-kept heads 1 (λ j. first.first_rule 1 j (omega arith)),
-        rule-kept heads 2 (λ j. first.first_rule 2 j (omega arith)),
-        rule-broken heads 3 i below first.broken first.first_index) refl
+    rw (
+      rule-kept heads 1 (λ j. first.first_rule 1 j (omega arith)),
+      rule-kept heads 2 (λ j. first.first_rule 2 j (omega arith)),
+      rule-broken heads 3 i below first.broken first.first_index,
+    ) refl
 rules-broken heads (suc (suc (suc (suc zero)))) i first =
     let below = below-places heads 4 i (λ past far. bound_beyond heads past (omega arith)) first.broken in
     rw (
@@ -95,4 +103,4 @@ rules-broken heads (suc (suc (suc (suc (suc zero))))) i first =
     ) refl
 rules-broken heads (suc (suc (suc (suc (suc (suc rule)))))) i first =
     absurd (both_ways (breaks (suc (suc (suc (suc (suc (suc rule)))))) heads i)
-        (no_rule (suc (suc (suc (suc (suc (suc rule)))))) heads i (omega arith)) first.broken)
+    (no_rule (suc (suc (suc (suc (suc (suc rule)))))) heads i (omega arith)) first.broken)

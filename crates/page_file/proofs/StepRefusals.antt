@@ -1,16 +1,14 @@
 -- Refusals of the steps, by their kind: a failed read and want of memory are handed on, and any other has its reason.
-use Rattle.std.proofs.Common.{
-  ◌≡◌, ℕ, ◌+◌, ◌≤◌, List, ◌++◌, length, drop, Option, IfSome, Result, Err, subst, arith, length-append,
-}
+use Rattle.std.proofs.Common.{◌≡◌, ℕ, ◌+◌, ◌≤◌, List, ◌++◌, length, drop, Option, IfSome, Result, Err, subst, arith}
+use Rattle.std.proofs.Common.{length-append}
 use Rattle.geom_core.specs.declared.limits.TheConstants.{PAGE_BYTES}
 use Rattle.dag_core.specs.declared.counts.Counts.{Counts}
 use Rattle.page_file.specs.declared.open_faults.OpenFault.{OpenFault}
-use Rattle.page_file.specs.declared.open_faults.OpenFault.TheVariants.{
-  Magic, Version, Truncated, DirectoryDigest, DirectoryBad, Rule, PageDigest, PageBad, PageFault, Memory,
-}
-use Rattle.page_file.specs.Internal.Seen.{
-  StandsAt, EndsWithin, ReadRefused, JudgedTo, PageRefused, Answers, StepRefused,
-}
+use Rattle.page_file.specs.declared.open_faults.OpenFault.TheVariants.{Magic, Version, Truncated, DirectoryDigest}
+use Rattle.page_file.specs.declared.open_faults.OpenFault.TheVariants.{DirectoryBad, Rule, PageDigest, PageBad}
+use Rattle.page_file.specs.declared.open_faults.OpenFault.TheVariants.{PageFault, Memory}
+use Rattle.page_file.specs.Internal.Seen.{StandsAt, EndsWithin, ReadRefused, JudgedTo, PageRefused, Answers}
+use Rattle.page_file.specs.Internal.Seen.{StepRefused}
 use Rattle.page_file.specs.Refusals.{Opens, Refuses}
 use Rattle.page_file.proofs.Texts.{if_both, rest-join}
 
@@ -18,7 +16,7 @@ use Rattle.page_file.proofs.Texts.{if_both, rest-join}
 pub read-more : (known : Option (List ℕ)) (at more len : ℕ) (text : List ℕ) (faults new_faults : ℕ)
     (fault : OpenFault) → IfSome known (StandsAt at text) → length text + more ≤ len
     → ReadRefused known (at + length text) more faults new_faults fault →
-        ReadRefused known at len faults new_faults fault
+    ReadRefused known at len faults new_faults fault
 read-more known at more len text faults new_faults (Magic found) told room refused = refused
 read-more known at more len text faults new_faults (Version found) told room refused = refused
 read-more known at more len text faults new_faults (Truncated count) told room refused = record {
@@ -68,7 +66,7 @@ step-read known place at len step faults new_faults Memory short refused = refus
 pub step-judged : {X Y : Type 0} (known : Option (List ℕ)) (place : ℕ) (step : List ℕ → Result X OpenFault)
     (faults new_faults : ℕ) (judged : Result Y OpenFault) (fault : OpenFault)
     → (judged ≡ Err fault → Answers known place step (Err fault)) → JudgedTo judged fault →
-        StepRefused known place step faults new_faults fault
+    StepRefused known place step faults new_faults fault
 step-judged known place step faults new_faults judged (Magic found) answer refused = answer refused
 step-judged known place step faults new_faults judged (Version found) answer refused = answer refused
 step-judged known place step faults new_faults judged (Truncated count) answer refused = absurd refused
@@ -115,7 +113,7 @@ step-page known place at step judge text faults new_faults Memory short answer r
 pub step-opening : {X : Type 0} (known : Option (List ℕ)) (place : ℕ) (step : List ℕ → Result X OpenFault)
     (which : Counts → ℕ) (faults new_faults : ℕ) (fault : OpenFault)
     → (Answers known place step (Err fault) → Opens which known (Err fault)) →
-        StepRefused known place step faults new_faults fault → Refuses which known faults new_faults fault
+    StepRefused known place step faults new_faults fault → Refuses which known faults new_faults fault
 step-opening known place step which faults new_faults (Magic found) answer refused = answer refused
 step-opening known place step which faults new_faults (Version found) answer refused = answer refused
 step-opening known place step which faults new_faults (Truncated count) answer refused = answer refused

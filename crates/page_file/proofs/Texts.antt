@@ -1,8 +1,7 @@
 -- Texts that stand in the bytes of a file, one after the other, up to its end; and what is cut of them.
-use Rattle.std.proofs.Common.{
-  ◌≡◌, ℕ, ◌+◌, ◌<◌, ◌≤◌, List, ◌++◌, length, take, drop, Option, None, Some, IfSome, Result, Ok, Err, IsErr, IsErrAnd,
-  IfOk, IfErr, sym, ap, ◌∙◌, subst, append_assoc, arith, length-append, length-drop, length-take, take-append-drop,
-}
+use Rattle.std.proofs.Common.{◌≡◌, ℕ, ◌+◌, ◌<◌, ◌≤◌, List, ◌++◌, length, take, drop, Option, None, Some, IfSome, Result}
+use Rattle.std.proofs.Common.{Ok, Err, IsErr, IsErrAnd, IfOk, IfErr, sym, ap, ◌∙◌, subst, append_assoc, arith}
+use Rattle.std.proofs.Common.{length-append, length-drop, length-take, take-append-drop}
 use Rattle.std.proofs.Math.Seq.{take-append_seam, drop-append_seam}
 use Rattle.std.proofs.lemmas.Bool.Decides.{nat_tests}
 use Rattle.std.proofs.lemmas.List.{drop-drop}
@@ -43,7 +42,7 @@ pub told-same : (known other : Option (List ℕ)) (at place : ℕ) (text found :
 told-same known other at place text found same_known same_place same_text told =
     subst (λ (known : Option (List ℕ)). IfSome known (StandsAt at text)) same_known
     (subst (λ (at : ℕ). IfSome other (StandsAt at text)) same_place
-        (subst (λ (text : List ℕ). IfSome other (StandsAt place text)) same_text told))
+    (subst (λ (text : List ℕ). IfSome other (StandsAt place text)) same_text told))
 
 -- ---- texts
 
@@ -52,7 +51,7 @@ pub text_and_rest : (at : ℕ) (text bytes : List ℕ) → StandsAt at text byte
     drop at bytes ≡ text ++ drop (length text) (drop at bytes)
 text_and_rest at text bytes stands =
     sym (take-append-drop (length text) (drop at bytes)) ∙
-        ap (λ front. front ++ drop (length text) (drop at bytes)) stands
+    ap (λ front. front ++ drop (length text) (drop at bytes)) stands
 
 -- a text with what follows it
 pub stands-from : (at : ℕ) (text rest bytes : List ℕ) → drop at bytes ≡ text ++ rest → StandsAt at text bytes
@@ -67,13 +66,13 @@ rest-from at text rest bytes is =
 pub stands-first : (at : ℕ) (xs ys bytes : List ℕ) → StandsAt at (xs ++ ys) bytes → StandsAt at xs bytes
 stands-first at xs ys bytes stands =
     stands-from at xs (ys ++ drop (length (xs ++ ys)) (drop at bytes)) bytes
-        (text_and_rest at (xs ++ ys) bytes stands ∙ append_assoc xs ys (drop (length (xs ++ ys)) (drop at bytes)))
+    (text_and_rest at (xs ++ ys) bytes stands ∙ append_assoc xs ys (drop (length (xs ++ ys)) (drop at bytes)))
 
 pub stands-second : (at : ℕ) (xs ys bytes : List ℕ) → StandsAt at (xs ++ ys) bytes → StandsAt (at + length xs) ys bytes
 stands-second at xs ys bytes stands =
     stands-from (at + length xs) ys (drop (length (xs ++ ys)) (drop at bytes)) bytes
     (rest-from at xs (ys ++ drop (length (xs ++ ys)) (drop at bytes)) bytes
-        (text_and_rest at (xs ++ ys) bytes stands ∙ append_assoc xs ys (drop (length (xs ++ ys)) (drop at bytes))))
+    (text_and_rest at (xs ++ ys) bytes stands ∙ append_assoc xs ys (drop (length (xs ++ ys)) (drop at bytes))))
 
 -- what follows a text, up to the end
 pub rest-join : (at : ℕ) (text rest bytes : List ℕ) → StandsAt at text bytes → drop (at + length text) bytes ≡ rest →
@@ -86,7 +85,7 @@ pub stands-join : (at : ℕ) (xs ys bytes : List ℕ) → StandsAt at xs bytes �
 stands-join at xs ys bytes one two =
     stands-from at (xs ++ ys) (drop (length ys) (drop (at + length xs) bytes)) bytes
     (rest-join at xs (ys ++ drop (length ys) (drop (at + length xs) bytes)) bytes one
-        (text_and_rest (at + length xs) ys bytes two)
+    (text_and_rest (at + length xs) ys bytes two)
     ∙ sym (append_assoc xs ys (drop (length ys) (drop (at + length xs) bytes))))
 
 -- a text with what follows it is within the bytes
@@ -117,8 +116,14 @@ cut-past at len bytes past = grind (arith, nat_tests)
 pub cut-text : (at len : ℕ) (text bytes : List ℕ) → length text ≡ len → at ≤ length bytes → StandsAt at text bytes →
     cut at len bytes ≡ Ok text
 cut-text at len text bytes size reached stands =
-    cut-within at len bytes (omega (arith, size, reached, ap length stands, length-take (length text) (drop at bytes),
-        length-drop at bytes))
+    cut-within at len bytes (omega (
+      arith,
+      size,
+      reached,
+      ap length stands,
+      length-take (length text) (drop at bytes),
+      length-drop at bytes,
+    ))
     ∙ ap (λ (n : ℕ). Ok (take n (drop at bytes))) (sym size) ∙ ap (λ (found : List ℕ). Ok found) stands
 
 -- nothing is cut where the file ends too early

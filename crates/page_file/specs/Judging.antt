@@ -1,7 +1,6 @@
 -- How each part of a page file is judged: the first fault of the header, of the directory and of a page.
-use Rattle.std.specs.Prelude.{
-  Bool, true, false, not, ◌==◌, ℕ, ◌+◌, List, [], length, take, Option, Some, None, Result, Ok, Err, slice_index_or,
-}
+use Rattle.std.specs.Prelude.{Bool, true, false, not, ◌==◌, ℕ, ◌+◌, List, [], length, take, Option, Some, None, Result}
+use Rattle.std.specs.Prelude.{Ok, Err, slice_index_or}
 use Rattle.std.specs.List.{find, range_with_len}
 use Rattle.std.specs.Option.{option_or, option_map}
 use Rattle.std.specs.Str.{bytes_eq}
@@ -20,9 +19,8 @@ use Rattle.page_codec.specs.Breaks.{first_directory_break, first_page_break}
 use Rattle.page_codec.specs.Reading.{header_of, directory_of, page_of}
 use Rattle.page_codec.specs.Spelling.{magic, directory_digest}
 use Rattle.page_file.specs.declared.open_faults.OpenFault.{OpenFault}
-use Rattle.page_file.specs.declared.open_faults.OpenFault.TheVariants.{
-  Magic, Version, DirectoryDigest, DirectoryBad, Rule, PageDigest, PageBad,
-}
+use Rattle.page_file.specs.declared.open_faults.OpenFault.TheVariants.{Magic, Version, DirectoryDigest, DirectoryBad}
+use Rattle.page_file.specs.declared.open_faults.OpenFault.TheVariants.{Rule, PageDigest, PageBad}
 
 -- this fault, unless that holds
 abbrev pub fault_unless : Bool → OpenFault → Option OpenFault

@@ -1,8 +1,7 @@
 -- The opening of a page file, over its bytes: they are cut at the places of its parts, and each part is judged before
 -- the next one is cut. The answer is the first fault, or what the parts spell.
-use Rattle.std.specs.Prelude.{
-  nat_le, ℕ, zero, suc, ◌+◌, List, [], ◌∷◌, ◌++◌, length, take, drop, Result, Ok, Err, if◌then◌else◌,
-}
+use Rattle.std.specs.Prelude.{nat_le, ℕ, zero, suc, ◌+◌, List, [], ◌∷◌, ◌++◌, length, take, drop, Result, Ok, Err}
+use Rattle.std.specs.Prelude.{if◌then◌else◌}
 use Rattle.geom_core.specs.declared.limits.TheConstants.{PAGE_BYTES}
 use Rattle.dag_core.specs.declared.counts.Counts.{Counts}
 use Rattle.dag_core.specs.Ranges.{counts_of}

@@ -1,21 +1,18 @@
 -- Shared edges of edge uses that are in order: two items have one if they have uses of one edge.
-use Rattle.std.proofs.Common.{
-  ◌≡◌, ℕ, zero, suc, ◌+◌, ◌-◌, ◌<◌, ◌≤◌, true, false, not, ◌&&◌, ◌==◌, List, [], ◌∷◌, ◌++◌, length, get_or, drop, map,
-  All, sym, ap, ◌∙◌, subst, arith, ◌⊎◌, inl, inr, length-take, length-drop, add-zero, add-one, filter,
-}
+use Rattle.std.proofs.Common.{◌≡◌, ℕ, zero, suc, ◌+◌, ◌-◌, ◌<◌, ◌≤◌, true, false, not, ◌&&◌, ◌==◌, List, [], ◌∷◌, ◌++◌}
+use Rattle.std.proofs.Common.{length, get_or, drop, map, All, sym, ap, ◌∙◌, subst, arith, ◌⊎◌, inl, inr, length-take}
+use Rattle.std.proofs.Common.{length-drop, add-zero, add-one, filter}
 use Rattle.std.specs.Cmp.{both_ways}
 use Rattle.std.specs.List.{list_any, range_with_len}
-use Rattle.std.proofs.lemmas.Bool.{
-  and_parts, and_from, not_from_true, cases_lt, false≢true, eqb-true, eq-eqb, not-false, or_parts, or_from, ne_eqb,
-}
+use Rattle.std.proofs.lemmas.Bool.{and_parts, and_from, not_from_true, cases_lt, false≢true, eqb-true, eq-eqb}
+use Rattle.std.proofs.lemmas.Bool.{not-false, or_parts, or_from, ne_eqb}
 use Rattle.std.proofs.lemmas.List.{length-map, get_or-take, get_or-drop, get_or-map, get_or_default}
 use Rattle.std.proofs.lemmas.List.Folds.{Any-from_list_any, list_any_at}
 use Rattle.partition.specs.declared.edge_uses.EdgeUse.{EdgeUse}
 use Rattle.partition.specs.Growing.{is_in}
 use Rattle.partition.specs.Internal.SharedEdges.{AreStarts, IsSharedEdge, are_adjacent, shared_edge_at, shared_edges_of}
-use Rattle.partition.specs.Internal.EdgeUses.{
-  AreInOrder, IsUseBelow, begins_edge, edge_starts, are_adjacent_in, no_use, on_one_edge, use_at,
-}
+use Rattle.partition.specs.Internal.EdgeUses.{AreInOrder, IsUseBelow, begins_edge, edge_starts, are_adjacent_in, no_use}
+use Rattle.partition.specs.Internal.EdgeUses.{on_one_edge, use_at}
 use Rattle.partition.proofs.SharedEdgeLists.{length-shared_edges_of, get_or-shared_edges_of}
 use Rattle.partition.proofs.SameEdges.{edges_from_one, on_one_edge-from}
 use Rattle.partition.proofs.Segments.{AreSegments, SegmentAt, segments_of, segment_at}
@@ -31,8 +28,8 @@ pub cuts : (uses : List EdgeUse) → Cuts uses (edge_starts uses)
 cuts uses =
     let e : 0 + length uses ≡ length uses = omega arith in
     let P : ℕ → Type 0 =
-        λ n. AreSegments (begins_edge uses) 0 n (filter (begins_edge uses)
-        (range_with_len 0 (length uses)) ++ n ∷ []) in
+    λ n. AreSegments (begins_edge uses) 0 n (filter (begins_edge uses)
+    (range_with_len 0 (length uses)) ++ n ∷ []) in
     subst P e (segments_of (begins_edge uses) 0 (length uses))
 
 -- starts rise, and end at the length
@@ -41,8 +38,12 @@ rises_to : (uses : List EdgeUse) (starts : List ℕ) → Cuts uses starts → (k
 rises_to uses starts s k zero h = omega (arith, ap (λ m. get_or starts m 0) (add-zero k))
 rises_to uses starts s k (suc n) h =
     let e : k + suc n ≡ suc (k + n) = omega arith in
-    omega (arith, ap (λ m. get_or starts m 0) e, s.rises (k + n) (omega arith),
-        rises_to uses starts s k n (omega arith))
+    omega (
+      arith,
+      ap (λ m. get_or starts m 0) e,
+      s.rises (k + n) (omega arith),
+      rises_to uses starts s k n (omega arith),
+    )
 
 start_rises : (uses : List EdgeUse) (starts : List ℕ) → Cuts uses starts → (k j : ℕ) → k ≤ j → j < length starts →
     get_or starts k 0 ≤ get_or starts j 0
@@ -58,11 +59,19 @@ start_within uses starts s k h =
 pub are_starts : (uses : List EdgeUse) (starts : List ℕ) → Cuts uses starts → AreStarts (ranks_in uses) starts
 are_starts uses starts s = record {
   ascend =
-      λ i j d h k. omega (arith, get_or_default starts i d 0 (omega arith), get_or_default starts j d 0 k,
-      start_rises uses starts s i j h k);
+      λ i j d h k. omega (
+        arith,
+        get_or_default starts i d 0 (omega arith),
+        get_or_default starts j d 0 k,
+        start_rises uses starts s i j h k,
+      );
   within =
-      λ k d h. omega (arith, get_or_default starts k d 0 h, start_within uses starts s k h,
-      length-map uses (λ (s : EdgeUse). s.rank));
+      λ k d h. omega (
+        arith,
+        get_or_default starts k d 0 h,
+        start_within uses starts s k h,
+        length-map uses (λ (s : EdgeUse). s.rank),
+      );
 }
 
 -- ---- what a shared edge has
@@ -77,8 +86,13 @@ length-edge : (uses : List EdgeUse) (starts : List ℕ) → Cuts uses starts →
 length-edge uses starts s k h =
     let e : get_or starts (k + 1) 0 ≡ get_or starts (suc k) 0 = ap (λ m. get_or starts m 0) (add-one k) in
     let l = length-map uses (λ (s : EdgeUse). s.rank) in
-    omega (arith, length-take (get_or starts (k + 1) 0 - get_or starts k 0) (drop (get_or starts k 0) (ranks_in uses)),
-        length-drop (get_or starts k 0) (ranks_in uses), l, start_within uses starts s (suc k) h)
+    omega (
+      arith,
+      length-take (get_or starts (k + 1) 0 - get_or starts k 0) (drop (get_or starts k 0) (ranks_in uses)),
+      length-drop (get_or starts k 0) (ranks_in uses),
+      l,
+      start_within uses starts s (suc k) h,
+    )
 
 reads_at : (uses : List EdgeUse) (starts : List ℕ) → Cuts uses starts → (k m d : ℕ) → suc k < length starts →
     m < length (shared_edge_at (ranks_in uses) starts k) →
@@ -104,7 +118,7 @@ not_begun uses p e =
     let same : suc p - 1 ≡ p = omega arith in
     let h = or_parts (suc p == 0) (not (on_one_edge (use_at uses (suc p - 1)) (use_at uses (suc p)))) e in
     sym (edges_from_one (use_at uses (suc p - 1)) (use_at uses (suc p))
-        (not-false (on_one_edge (use_at uses (suc p - 1)) (use_at uses (suc p))) h.1))
+    (not-false (on_one_edge (use_at uses (suc p - 1)) (use_at uses (suc p))) h.1))
     ∙ ap (λ q. (use_at uses q).edge) same
 
 begun_apart : (uses : List EdgeUse) (p : ℕ) → begins_edge uses (suc p) ≡ true →
@@ -112,11 +126,11 @@ begun_apart : (uses : List EdgeUse) (p : ℕ) → begins_edge uses (suc p) ≡ t
 begun_apart uses p e same_edge =
     let same : suc p - 1 ≡ p = omega arith in
     let one =
-        on_one_edge-from (use_at uses (suc p - 1)) (use_at uses (suc p))
-        (ap (λ q. (use_at uses q).edge) same ∙ same_edge) in
+    on_one_edge-from (use_at uses (suc p - 1)) (use_at uses (suc p))
+    (ap (λ q. (use_at uses q).edge) same ∙ same_edge) in
     let not_zero : (suc p == 0) ≡ false = ne_eqb (suc p) 0 (λ z. absurd (omega arith)) in
     false≢true (sym (or_from (suc p == 0) (not (on_one_edge (use_at uses (suc p - 1)) (use_at uses (suc p)))) not_zero
-        (not_from_true (on_one_edge (use_at uses (suc p - 1)) (use_at uses (suc p))) one)) ∙ e)
+    (not_from_true (on_one_edge (use_at uses (suc p - 1)) (use_at uses (suc p))) one)) ∙ e)
 
 start_zero : (uses : List EdgeUse) (starts : List ℕ) → Cuts uses starts → get_or starts 0 0 ≡ 0
 start_zero uses starts s = by_place (cases_lt 0 (get_or starts 0 0))
@@ -162,13 +176,13 @@ found_at : (uses : List EdgeUse) (i j a b : ℕ) → a < length uses → b < len
     (use_at uses a).edge ≡ (use_at uses b).edge → are_adjacent_in uses i j ≡ true
 found_at uses i j a b ha hb ra rb e =
     list_any_at (λ (s : EdgeUse). s.rank == i && list_any (λ (t : EdgeUse). t.rank == j && on_one_edge s t) uses) uses a
-        no_use ha
+    no_use ha
     (and_from ((use_at uses a).rank == i) (list_any
-        (λ (t : EdgeUse). t.rank == j && on_one_edge (use_at uses a) t) uses)
+    (λ (t : EdgeUse). t.rank == j && on_one_edge (use_at uses a) t) uses)
     (eq-eqb (use_at uses a).rank i ra)
     (list_any_at (λ (t : EdgeUse). t.rank == j && on_one_edge (use_at uses a) t) uses b no_use hb
     (and_from ((use_at uses b).rank == j) (on_one_edge (use_at uses a) (use_at uses b))
-        (eq-eqb (use_at uses b).rank j rb)
+    (eq-eqb (use_at uses b).rank j rb)
     (on_one_edge-from (use_at uses a) (use_at uses b) e))))
 
 are_adjacent_in-from_are_adjacent : (uses : List EdgeUse) (starts : List ℕ) → Cuts uses starts → (i j : ℕ) →
@@ -178,8 +192,8 @@ are_adjacent_in-from_are_adjacent uses starts s i j e =
     let w = Any-from_list_any (λ edge. is_in edge i && is_in edge j) shared e in
     let inside : suc w.0 < length starts = omega (arith, length-shared_edges_of (ranks_in uses) starts) in
     let is : w.1 ≡ shared_edge_at (ranks_in uses) starts w.0 =
-        sym w.3 ∙ (get_or_default shared w.0 w.1 [] w.2 ∙
-        get_or-shared_edges_of (ranks_in uses) starts w.0 (omega arith)) in
+    sym w.3 ∙ (get_or_default shared w.0 w.1 [] w.2 ∙
+    get_or-shared_edges_of (ranks_in uses) starts w.0 (omega arith)) in
     let both = and_parts (is_in w.1 i) (is_in w.1 j) w.4 in
     let a = found_on_edge uses starts s w.0 i inside (ap (λ edge. is_in edge i) (sym is) ∙ both.0) in
     let b = found_on_edge uses starts s w.0 j inside (ap (λ edge. is_in edge j) (sym is) ∙ both.1) in
@@ -219,8 +233,12 @@ on_one_shared_edge : (uses : List EdgeUse) (starts : List ℕ) → Cuts uses sta
     on_one_edge (use_at uses a) (use_at uses b) ≡ true → OnOneEdge starts a b
 on_one_shared_edge uses starts s o a b h hb one =
     let r = segment_at starts a (omega (arith, start_zero uses starts s)) (omega (arith, s.ends)) in
-    record { edge = r.number; inside = r.inside; from = r.from; to =
-        to r (cases_lt b (get_or starts (suc r.number) 0)) }
+    record {
+      edge = r.number;
+      inside = r.inside;
+      from = r.from;
+      to = to r (cases_lt b (get_or starts (suc r.number) 0));
+    }
   where
     to : (r : SegmentAt starts a) → (b < get_or starts (suc r.number) 0) ⊎ (get_or starts (suc r.number) 0 ≤ b) →
         b < get_or starts (suc r.number) 0
@@ -228,19 +246,19 @@ on_one_shared_edge uses starts s o a b h hb one =
     to r (inr l) =
         let e : get_or starts (suc r.number) 0 ≡ suc (get_or starts (suc r.number) 0 - 1) = omega (arith, r.to) in
         absurd (not_beyond uses starts s o a b r.number (get_or starts (suc r.number) 0 - 1) hb one r.inside e
-            (omega (arith, r.to)) (omega arith))
+        (omega (arith, r.to)) (omega arith))
 
 is_on_edge : (uses : List EdgeUse) (starts : List ℕ) → Cuts uses starts → (k a i : ℕ) → suc k < length starts →
     get_or starts k 0 ≤ a → a < get_or starts (suc k) 0 →
     (use_at uses a).rank ≡ i → is_in (shared_edge_at (ranks_in uses) starts k) i ≡ true
 is_on_edge uses starts s k a i inside h l e =
     let there : a - get_or starts k 0 < length (shared_edge_at (ranks_in uses) starts k) =
-        omega (arith, length-edge uses starts s k inside) in
+    omega (arith, length-edge uses starts s k inside) in
     let r = reads_at uses starts s k (a - get_or starts k 0) 0 inside there in
     let same : get_or starts k 0 + (a - get_or starts k 0) ≡ a = omega arith in
     list_any_at (λ j. j == i) (shared_edge_at (ranks_in uses) starts k) (a - get_or starts k 0) 0 there
     (eq-eqb (get_or (shared_edge_at (ranks_in uses) starts k) (a - get_or starts k 0) 0) i
-        (r.is ∙ (ap (λ p. (use_at uses p).rank) same ∙ e)))
+    (r.is ∙ (ap (λ p. (use_at uses p).rank) same ∙ e)))
 
 adjacent_on_edge : (uses : List EdgeUse) (starts : List ℕ) → Cuts uses starts → (i j k : ℕ) → suc k < length starts →
     is_in (shared_edge_at (ranks_in uses) starts k) i ≡ true →
@@ -250,10 +268,10 @@ adjacent_on_edge uses starts s i j k inside e f =
     let shared : List (List ℕ) = shared_edges_of (ranks_in uses) starts in
     let P : List ℕ → Type 0 = λ edge. (is_in edge i && is_in edge j) ≡ true in
     list_any_at (λ edge. is_in edge i && is_in edge j) shared k []
-        (omega (arith, length-shared_edges_of (ranks_in uses) starts))
+    (omega (arith, length-shared_edges_of (ranks_in uses) starts))
     (subst P (sym (get_or-shared_edges_of (ranks_in uses) starts k (omega arith)))
     (and_from (is_in (shared_edge_at (ranks_in uses) starts k) i)
-        (is_in (shared_edge_at (ranks_in uses) starts k) j) e f))
+    (is_in (shared_edge_at (ranks_in uses) starts k) j) e f))
 
 adjacent_from_places : (uses : List EdgeUse) (starts : List ℕ) → Cuts uses starts → AreInOrder uses → (i j a b : ℕ) →
     a < length uses → b < length uses →
@@ -267,7 +285,7 @@ adjacent_from_places uses starts s o i j a b ha hb ra rb one (inl h) =
     (is_on_edge uses starts s r.edge b j r.inside (omega (arith, r.from)) r.to rb)
 adjacent_from_places uses starts s o i j a b ha hb ra rb one (inr h) =
     let back =
-        on_one_edge-from (use_at uses b) (use_at uses a) (sym (edges_from_one (use_at uses a) (use_at uses b) one)) in
+    on_one_edge-from (use_at uses b) (use_at uses a) (sym (edges_from_one (use_at uses a) (use_at uses b) one)) in
     let r = on_one_shared_edge uses starts s o b a (omega arith) ha back in
     adjacent_on_edge uses starts s i j r.edge r.inside
     (is_on_edge uses starts s r.edge a i r.inside (omega (arith, r.from)) r.to ra)
@@ -281,8 +299,8 @@ are_adjacent-from_are_adjacent_in : (uses : List EdgeUse) (starts : List ℕ) �
     (i j : ℕ) → are_adjacent_in uses i j ≡ true → are_adjacent (shared_edges_of (ranks_in uses) starts) i j ≡ true
 are_adjacent-from_are_adjacent_in uses starts s o i j e =
     let w =
-        Any-from_list_any (λ (s : EdgeUse). s.rank == i && list_any
-        (λ (t : EdgeUse). t.rank == j && on_one_edge s t) uses) uses e in
+    Any-from_list_any (λ (s : EdgeUse). s.rank == i && list_any
+    (λ (t : EdgeUse). t.rank == j && on_one_edge s t) uses) uses e in
     let first = and_parts (w.1.rank == i) (list_any (λ (t : EdgeUse). t.rank == j && on_one_edge w.1 t) uses) w.4 in
     let v = Any-from_list_any (λ (t : EdgeUse). t.rank == j && on_one_edge w.1 t) uses first.1 in
     let second = and_parts (v.1.rank == j) (on_one_edge w.1 v.1) v.4 in
@@ -312,7 +330,7 @@ is_shared_edge uses starts n s o below k inside =
           let first = get_or starts k 0 in
           let one = on_one_edge-from (use_at uses (first + i)) (use_at uses (first + j))
           (edge_from_start uses starts s k i inside a.before_end ∙
-              sym (edge_from_start uses starts s k j inside b.before_end)) in
+          sym (edge_from_start uses starts s k j inside b.before_end)) in
           omega (arith, a.is, b.is, o.ascend (first + i) (first + j) (omega arith) (omega (arith, b.before_end)) one);
       below = λ m d l.
           let a = reads_at uses starts s k m d inside l in
@@ -325,5 +343,5 @@ are_shared_edges uses starts n s o below k d h =
     let shared : List (List ℕ) = shared_edges_of (ranks_in uses) starts in
     let inside : suc k < length starts = omega (arith, length-shared_edges_of (ranks_in uses) starts) in
     let is : get_or shared k d ≡ shared_edge_at (ranks_in uses) starts k =
-        get_or_default shared k d [] h ∙ get_or-shared_edges_of (ranks_in uses) starts k (omega arith) in
+    get_or_default shared k d [] h ∙ get_or-shared_edges_of (ranks_in uses) starts k (omega arith) in
     subst (IsSharedEdge n) (sym is) (is_shared_edge uses starts n s o below k inside)

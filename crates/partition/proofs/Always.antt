@@ -1,12 +1,8 @@
 -- There is always a grown order: the next item exists while not all are placed, and so an order of each length.
-use Rattle.std.proofs.Common.{
-  ◌≡◌, ◌<◌, ◌≤◌, ◌+◌, ◌⊎◌, inl, inr, ℕ, zero, suc, Bool, true, false, ◌&&◌, ◌||◌, eqb, ltb, cond, List, [], ◌∷◌, ◌++◌,
-  length, get_or, set, replicate, refl, sym, ap, ◌∙◌, arith,
-}
-use Rattle.std.proofs.lemmas.Bool.{
-  and_from, and_parts, or_cases, or_left, or_right, cases_Bool, cases_lt, cases_order, eqb-true, ltb-true, eq-eqb,
-  lt-ltb, both_ways,
-}
+use Rattle.std.proofs.Common.{◌≡◌, ◌<◌, ◌≤◌, ◌+◌, ◌⊎◌, inl, inr, ℕ, zero, suc, Bool, true, false, ◌&&◌, ◌||◌, eqb, ltb}
+use Rattle.std.proofs.Common.{cond, List, [], ◌∷◌, ◌++◌, length, get_or, set, replicate, refl, sym, ap, ◌∙◌, arith}
+use Rattle.std.proofs.lemmas.Bool.{and_from, and_parts, or_cases, or_left, or_right, cases_Bool, cases_lt, cases_order}
+use Rattle.std.proofs.lemmas.Bool.{eqb-true, ltb-true, eq-eqb, lt-ltb, both_ways}
 use Rattle.std.proofs.lemmas.List.{get_or-replicate, length-replicate, length-set, length_push}
 use Rattle.partition.specs.Internal.Frontiers.{IsLeft}
 use Rattle.partition.specs.Growing.{goes_before, is_chosen, is_grown, is_in, ranks_before, touches}
@@ -88,14 +84,14 @@ before-total : (key : ℕ → ℕ) (near : ℕ → ℕ → Bool) (batch : List �
     (goes_before key near batch i j ≡ true) ⊎ (goes_before key near batch j i ≡ true)
 before-total key near batch i j other =
     goes-total (touches near batch i) (touches near batch j) (ranks_before key i j) (ranks_before key j i)
-        (ranks-total key i j other)
+    (ranks-total key i j other)
 
 before-trans : (key : ℕ → ℕ) (near : ℕ → ℕ → Bool) (batch : List ℕ) (i j k : ℕ) →
     goes_before key near batch i j ≡ true →
     goes_before key near batch j k ≡ true → goes_before key near batch i k ≡ true
 before-trans key near batch i j k h g =
     goes-trans (touches near batch i) (touches near batch j) (touches near batch k) (ranks_before key i j)
-        (ranks_before key j k) (ranks_before key i k)
+    (ranks_before key j k) (ranks_before key i k)
     (ranks-trans key i j k) h g
 
 -- of the items below a limit all are placed, or one goes first
@@ -227,7 +223,7 @@ front_of n key near size (suc k) h =
             | inr past ↦
                 let here : place ≡ length before.front = omega arith in
                 rw here (is_chosen-here n key near size before.front item
-                    (is_next-from n key near before.front (batch_of size before.front) item next))
+                (is_next-from n key near before.front (batch_of size before.front) item next))
           ];
           marked = record {
             marks = set marked.marks item true;

@@ -1,8 +1,6 @@
 -- Batches of items: they are determined, have each item once, and are full but the last.
-use Rattle.std.proofs.Common.{
-  ◌≡◌, ◌<◌, ◌≤◌, ◌+◌, ◌*◌, inl, inr, ℕ, zero, suc, List, [], ◌∷◌, length, slice_index, All, true, sym, ap, ◌∙◌, subst,
-  arith,
-}
+use Rattle.std.proofs.Common.{◌≡◌, ◌<◌, ◌≤◌, ◌+◌, ◌*◌, inl, inr, ℕ, zero, suc, List, [], ◌∷◌, length, slice_index, All}
+use Rattle.std.proofs.Common.{true, sym, ap, ◌∙◌, subst, arith}
 use Rattle.std.specs.List.{concat}
 use Rattle.std.proofs.lemmas.Bool.{cases_lt}
 use Rattle.std.proofs.lemmas.List.{get_or_default, get_or-append-add, get_or_append_left, length-append}
@@ -33,7 +31,7 @@ pub batches_equal : (keys : List ℕ) (edges : List (List (Pt × Pt))) (size : �
 batches_equal keys edges size batches other b o =
     let same : concat batches ≡ concat other =
     grown_orders_equal (length keys) size (slice_index keys) (are_neighbours edges) (concat batches)
-        (concat other) b.grown o.grown in
+    (concat other) b.grown o.grown in
     b.split ∙ (ap (batches_of size) same ∙ sym o.split)
 
 -- ---- how many they are, and how long
@@ -83,7 +81,7 @@ parts_below n (b ∷ bs) all zero d h = λ j e below.
     rw (← get_or_append_left b (concat bs) e j below) (all j e (omega (arith, length-append b (concat bs))))
 parts_below n (b ∷ bs) all (suc k) d h =
     parts_below n bs (λ j e below. rw (← get_or-append-add b (concat bs) j e)
-        (all (length b + j) e (omega (arith, length-append b (concat bs))))) k d (omega arith)
+    (all (length b + j) e (omega (arith, length-append b (concat bs))))) k d (omega arith)
 
 pub numbers_below : (keys : List ℕ) (edges : List (List (Pt × Pt))) (size : ℕ) (batches : List (List ℕ)) →
     AreBatches keys edges size batches →

@@ -1,8 +1,7 @@
 -- Lists that grow by one in a loop, batches joined, and batches of ranks replaced by numbers.
-use Rattle.std.proofs.Common.{
-  ◌≡◌, ℕ, zero, suc, ◌+◌, ◌-◌, ◌*◌, ◌<◌, ◌≤◌, Bool, true, false, cond, List, [], ◌∷◌, ◌++◌, length, get_or, take, drop,
-  map, filter, slice_index, All, sym, ap, ◌∙◌, subst, arith, add-zero, zero-add, append-nil, length-take,
-}
+use Rattle.std.proofs.Common.{◌≡◌, ℕ, zero, suc, ◌+◌, ◌-◌, ◌*◌, ◌<◌, ◌≤◌, Bool, true, false, cond, List, [], ◌∷◌, ◌++◌}
+use Rattle.std.proofs.Common.{length, get_or, take, drop, map, filter, slice_index, All, sym, ap, ◌∙◌, subst, arith}
+use Rattle.std.proofs.Common.{add-zero, zero-add, append-nil, length-take}
 use mathlib.Core.Path.{fun_ext}
 use Rattle.std.specs.Fork.{slice_chunk}
 use Rattle.std.specs.List.{concat, enumerate_from, range_with_len, slice_index_or}
@@ -56,7 +55,7 @@ keyed_push a [] k = ap (λ m. keyed (m, k) ∷ []) (sym (add-zero a))
 keyed_push a (x ∷ keys) k =
     let e : a + 1 + length keys ≡ a + suc (length keys) = omega arith in
     ap (λ xs. keyed (a, x) ∷ xs) (keyed_push (a + 1) keys k ∙
-        ap (λ m. map keyed (enumerate_from (a + 1) keys) ++ keyed (m, k) ∷ []) e)
+    ap (λ m. map keyed (enumerate_from (a + 1) keys) ++ keyed (m, k) ∷ []) e)
 
 pub keyed_more : (keys : List ℕ) (n : ℕ) → n < length keys →
     map keyed (enumerate_from 0 (take (n + 1) keys)) ≡ map keyed (enumerate_from 0 (take n keys)) ++ keyed
@@ -77,7 +76,7 @@ joined_chunks xs size a (suc m) =
     let next : a * size + size ≡ (a + 1) * size = omega arith in
     ap (λ ys. take size (drop (a * size) xs) ++ ys)
     (joined_chunks xs size (a + 1) m ∙ ap (λ ys. take (m * size) ys)
-        (ap (λ n. drop n xs) (sym next) ∙ sym (drop-drop size (a * size) xs)))
+    (ap (λ n. drop n xs) (sym next) ∙ sym (drop-drop size (a * size) xs)))
     ∙ (sym (take-add size (m * size) (drop (a * size) xs)) ∙ ap (λ n. take n (drop (a * size) xs)) more)
 
 pub concat-batches_of : (size : ℕ) (xs : List ℕ) → 0 < size → concat (batches_of size xs) ≡ xs
@@ -85,7 +84,7 @@ unfolding batches_of
 concat-batches_of size xs h =
     let none : 0 * size ≡ 0 = omega arith in
     let enough : length xs ≤ batch_count size xs * size =
-        omega (arith, lt-div-mul-add {a = length xs + (size - 1)} {b = size} h) in
+    omega (arith, lt-div-mul-add {a = length xs + (size - 1)} {b = size} h) in
     joined_chunks xs size 0 (batch_count size xs)
     ∙ (ap (λ n. take (batch_count size xs * size) (drop n xs)) none
     ∙ take_all (batch_count size xs * size) xs enough)
@@ -122,7 +121,7 @@ batches_from_renumbered keys edges order uses size batches h ranked e t =
     let len : length order ≡ length keys = length-ranking keys order ranked in
     let item : ℕ → List (Pt × Pt) = λ number. slice_index_or edges number [] in
     let near_is : (r s : ℕ) → r < length keys → s < length keys →
-        are_adjacent_in uses r s ≡ are_neighbours edges (slice_index order r) (slice_index order s) =
+    are_adjacent_in uses r s ≡ are_neighbours edges (slice_index order r) (slice_index order s) =
     λ r s hr hs.
     ap (λ xs. are_adjacent_in xs r s) e
     ∙ (are_adjacent_in-uses_from (in_order edges order) r s
@@ -137,6 +136,6 @@ batches_from_renumbered keys edges order uses size batches h ranked e t =
       grown = subst Q (sym joined)
           (grown_renumbered (length keys) (slice_index keys) (are_adjacent_in uses) (are_neighbours edges) order
           (renumbers keys order (are_adjacent_in uses) (are_neighbours edges) ranked near_is) size t.ranks
-              (subst P len t.grown));
+          (subst P len t.grown));
       split = t.split ∙ ap (batches_of size) (sym joined);
     }

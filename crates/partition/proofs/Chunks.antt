@@ -1,13 +1,10 @@
 -- The batches of an order: how long each is, and where an item of one is.
-use Rattle.std.proofs.Common.{
-  ◌≡◌, ◌<◌, ◌≤◌, ◌+◌, ◌-◌, ◌*◌, ◌/◌, ◌%◌, inl, inr, ℕ, Bool, min, List, [], length, get_or, drop, Contains, sym, ap,
-  ◌∙◌, zero-add, arith,
-}
+use Rattle.std.proofs.Common.{◌≡◌, ◌<◌, ◌≤◌, ◌+◌, ◌-◌, ◌*◌, ◌/◌, ◌%◌, inl, inr, ℕ, Bool, min, List, [], length, get_or}
+use Rattle.std.proofs.Common.{drop, Contains, sym, ap, ◌∙◌, zero-add, arith}
 use Rattle.std.specs.Fork.{slice_chunk}
 use Rattle.std.specs.List.{range_with_len}
-use Rattle.std.proofs.lemmas.List.{
-  get_or_default, get_or-drop, get_or-map, get_or-take, length-drop, length-map, length-take,
-}
+use Rattle.std.proofs.lemmas.List.{get_or_default, get_or-drop, get_or-map, get_or-take, length-drop, length-map}
+use Rattle.std.proofs.lemmas.List.{length-take}
 use Rattle.std.proofs.lemmas.Nat.{div-add-mod', div-mul-add}
 use Rattle.std.proofs.Math.Nat.{mul-le-mul_right}
 use Rattle.std.proofs.lemmas.Bool.{cases_lt}
@@ -41,14 +38,14 @@ pub length-batches : (size : ℕ) (order : List ℕ) → length (batches_of size
 unfolding batches_of
 length-batches size order =
     length-map (range_with_len 0 (batch_count size order)) (slice_chunk order size) ∙
-        length-range 0 (batch_count size order)
+    length-range 0 (batch_count size order)
 
 pub get_or-batches : (size : ℕ) (order : List ℕ) (k : ℕ) → k < batch_count size order →
     get_or (batches_of size order) k [] ≡ slice_chunk order size k
 unfolding batches_of
 get_or-batches size order k h =
     get_or-map (slice_chunk order size) (range_with_len 0 (batch_count size order)) k 0 []
-        (omega (arith, length-range 0 (batch_count size order)))
+    (omega (arith, length-range 0 (batch_count size order)))
     ∙ ap (slice_chunk order size) (get_or-range 0 (batch_count size order) k 0 h ∙ zero-add k)
 
 -- how long a batch is
@@ -95,7 +92,7 @@ in_one_batch n key near size order some is item h =
     let chunk : List ℕ = slice_chunk order size batch in
     let within : place % size < length chunk = omega (arith, length-chunk size order batch, at.1) in
     let found : get_or chunk (place % size) item ≡ item =
-        get_or-chunk size order batch (place % size) item inside ∙ ap (λ p. get_or order p item) split ∙ at.2 in
+    get_or-chunk size order batch (place % size) item inside ∙ ap (λ p. get_or order p item) split ∙ at.2 in
     record {
       batch = batch;
       there = omega (arith, length-batches size order);
@@ -104,16 +101,16 @@ in_one_batch n key near size order some is item h =
           let other_there : other < batch_count size order = omega (arith, length-batches size order) in
           let other_chunk : List ℕ = slice_chunk order size other in
           let among : Contains other_chunk item =
-              is_in-true other_chunk item (rw (get_or-batches size order other other_there) at holds) in
+          is_in-true other_chunk item (rw (get_or-batches size order other other_there) at holds) in
           let short : among.0 < size = omega (arith, length-chunk size order other, among.1) in
           let before : other * size + among.0 < length order = omega (arith, length-chunk size order other, among.1) in
           let same : get_or order (other * size + among.0) item ≡ item =
-              sym (get_or-chunk size order other among.0 item short) ∙ among.2 in
+          sym (get_or-chunk size order other among.0 item short) ∙ among.2 in
           let here : get_or order (other * size + among.0) 0 ≡ get_or order place 0 =
           get_or_default order (other * size + among.0) 0 item before ∙ same ∙ sym at.2 ∙
-              get_or_default order place item 0 at.1 in
+          get_or_default order place item 0 at.1 in
           let one : other * size + among.0 ≡ place =
-              place_is_one n key near size order is (other * size + among.0) place (omega (arith, is.whole))
-              (omega (arith, is.whole, at.1)) here in
+          place_is_one n key near size order is (other * size + among.0) place (omega (arith, is.whole))
+          (omega (arith, is.whole, at.1)) here in
           sym (div-mul-add other size among.0 short) ∙ ap (λ p. p / size) one;
     }

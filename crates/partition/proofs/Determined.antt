@@ -1,8 +1,6 @@
 -- The growing rule determines the order.
-use Rattle.std.proofs.Common.{
-  ◌≡◌, ◌<◌, ◌≤◌, ◌+◌, ◌*◌, ◌/◌, inl, inr, ℕ, zero, suc, Bool, true, false, ◌&&◌, ◌||◌, eqb, ltb, cond, List, length,
-  get_or, take, drop, refl, sym, ap, ◌∙◌, arith,
-}
+use Rattle.std.proofs.Common.{◌≡◌, ◌<◌, ◌≤◌, ◌+◌, ◌*◌, ◌/◌, inl, inr, ℕ, zero, suc, Bool, true, false, ◌&&◌, ◌||◌, eqb}
+use Rattle.std.proofs.Common.{ltb, cond, List, length, get_or, take, drop, refl, sym, ap, ◌∙◌, arith}
 use Rattle.std.specs.List.{list_all, range_with_len}
 use Rattle.std.proofs.lemmas.Bool.{and_parts, or_cases, eqb-true, ltb-true}
 use Rattle.std.proofs.lemmas.List.{take_all, take_more_same}
@@ -60,7 +58,7 @@ goes_apart : (key : ℕ → ℕ) (near : ℕ → ℕ → Bool) (batch : List ℕ
     goes_before key near batch j i ≡ true → ⊥
 goes_apart key near batch i j h g =
     apart_by (touches near batch i) (touches near batch j) (ranks_before key i j) (ranks_before key j i)
-        (ranks_apart key i j) h g
+    (ranks_apart key i j) h g
 
 -- there is one next item
 one_next : (n : ℕ) (key : ℕ → ℕ) (near : ℕ → ℕ → Bool) (placed batch : List ℕ) (i j : ℕ) →
@@ -83,14 +81,14 @@ same_front : (n : ℕ) (key : ℕ → ℕ) (near : ℕ → ℕ → Bool) (size :
 same_front n key near size order other is is_other zero h = refl
 same_front n key near size order other is is_other (suc place) h =
     let front : take place order ≡ take place other =
-        same_front n key near size order other is is_other place (omega arith) in
+    same_front n key near size order other is is_other place (omega arith) in
     let chosen_other : is_next n key near (take place order) (drop (place / size * size) (take place order))
-        (get_or other place 0) ≡ true =
+    (get_or other place 0) ≡ true =
     ap (λ front. is_next n key near front (drop (place / size * size) front) (get_or other place 0)) front ∙
-        is_other.chosen place (omega arith) in
+    is_other.chosen place (omega arith) in
     let here : get_or order place 0 ≡ get_or other place 0 =
     one_next n key near (take place order) (drop (place / size * size) (take place order)) (get_or order place 0)
-        (get_or other place 0)
+    (get_or other place 0)
     (is.chosen place (omega arith)) chosen_other in
     let more : take (place + 1) order ≡ take (place + 1) other =
     take_more_same order other place 0 (omega (arith, is.whole)) (omega (arith, is_other.whole)) front here in
@@ -104,5 +102,5 @@ grown_orders_equal n size key near order other h g =
     let is : IsGrown n key near size order = is_grown-is n key near size order h in
     let is_other : IsGrown n key near size other = is_grown-is n key near size other g in
     sym (take_all n order (omega (arith, is.whole))) ∙
-        same_front n key near size order other is is_other n (omega arith)
+    same_front n key near size order other is is_other n (omega arith)
     ∙ take_all n other (omega (arith, is_other.whole))

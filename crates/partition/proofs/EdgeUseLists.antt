@@ -1,8 +1,7 @@
 -- Edge uses in another order, and the edge uses of items.
-use Rattle.std.proofs.Common.{
-  ◌≡◌, ℕ, zero, suc, ◌+◌, ◌<◌, ◌≤◌, Bool, true, false, ◌&&◌, ◌||◌, ◌==◌, List, [], ◌∷◌, ◌++◌, length, get_or, map, All,
-  IsPermutation, refl, sym, ap, ◌∙◌, subst, arith, add-zero, zero-add, take, append_assoc, length-take,
-}
+use Rattle.std.proofs.Common.{◌≡◌, ℕ, zero, suc, ◌+◌, ◌<◌, ◌≤◌, Bool, true, false, ◌&&◌, ◌||◌, ◌==◌, List, [], ◌∷◌}
+use Rattle.std.proofs.Common.{◌++◌, length, get_or, map, All, IsPermutation, refl, sym, ap, ◌∙◌, subst, arith, add-zero}
+use Rattle.std.proofs.Common.{zero-add, take, append_assoc, length-take}
 use Rattle.std.proofs.lemmas.List.{append-nil, length-map, map_more}
 use Rattle.std.proofs.lemmas.List.Elements.{All-nil, All-append, All-map}
 use Rattle.std.specs.List.{list_any, slice_index_or}
@@ -35,11 +34,11 @@ pub are_adjacent_in-IsPermutation : (xs ys : List EdgeUse) (i j : ℕ) → IsPer
     are_adjacent_in xs i j ≡ are_adjacent_in ys i j
 are_adjacent_in-IsPermutation xs ys i j h =
     let inner : List EdgeUse → EdgeUse → Bool =
-        λ uses s. list_any (λ (t : EdgeUse). t.rank == j && on_one_edge s t) uses in
+    λ uses s. list_any (λ (t : EdgeUse). t.rank == j && on_one_edge s t) uses in
     list_any-IsPermutation (λ (s : EdgeUse). s.rank == i && inner xs s) xs ys h
     ∙ list_any_agree (λ (s : EdgeUse). s.rank == i && inner xs s) (λ (s : EdgeUse). s.rank == i && inner ys s)
     (λ s. ap (λ b. s.rank == i && b) (list_any-IsPermutation
-        (λ (t : EdgeUse). t.rank == j && on_one_edge s t) xs ys h)) ys
+    (λ (t : EdgeUse). t.rank == j && on_one_edge s t) xs ys h)) ys
 
 -- ---- the edge uses of items
 
@@ -58,7 +57,7 @@ passes_own q rank r h edges =
     subst P (sym h)
     (list_any-map (λ (s : EdgeUse). s.rank == rank && q s) (edge_use rank) edges
     ∙ list_any_agree (λ e. rank == rank && q (edge_use rank e)) (λ e. q (edge_use rank e))
-        (λ e. ap (λ b. b && q (edge_use rank e)) (eq-eqb rank rank refl)) edges)
+    (λ e. ap (λ b. b && q (edge_use rank e)) (eq-eqb rank rank refl)) edges)
 
 passes_other : (q : EdgeUse → Bool) (rank r : ℕ) → (r ≡ rank → ⊥) → (edges : List (Pt × Pt)) →
     passes q rank (map (edge_use r) edges) ≡ false
@@ -98,10 +97,10 @@ are_adjacent_in-uses_from items i j =
     let inner : EdgeUse → Bool = λ s. passes (on_one_edge s) j (uses_from 0 items) in
     passes_at (λ s. passes (on_one_edge s) j (uses_from 0 items)) i 0 i (zero-add i) items
     ∙ list_any_agree (λ e. passes (on_one_edge (edge_use i e)) j (uses_from 0 items))
-        (λ e. list_any (same_edge e) (get_or items j []))
+    (λ e. list_any (same_edge e) (get_or items j []))
     (λ e. passes_at (on_one_edge (edge_use i e)) j 0 j (zero-add j) items
     ∙ list_any_agree (λ f. on_one_edge (edge_use i e) (edge_use j f)) (same_edge e) (λ f. edge_of-same e f i j)
-        (get_or items j [])) (get_or items i [])
+    (get_or items j [])) (get_or items i [])
 
 -- one more item
 pub uses_from_push : (r : ℕ) (items : List (List (Pt × Pt))) (edges : List (Pt × Pt)) →
@@ -110,13 +109,13 @@ uses_from_push r [] edges = append-nil (map (edge_use r) edges) ∙ ap (λ m. ma
 uses_from_push r (es ∷ items) edges =
     let e : r + 1 + length items ≡ r + suc (length items) = omega arith in
     ap (λ xs. map (edge_use r) es ++ xs) (uses_from_push (r + 1) items edges ∙
-        ap (λ m. uses_from (r + 1) items ++ map (edge_use m) edges) e)
+    ap (λ m. uses_from (r + 1) items ++ map (edge_use m) edges) e)
     ∙ sym (append_assoc (map (edge_use r) es) (uses_from (r + 1) items) (map (edge_use (r + suc (length items))) edges))
 
 pub in_order_more : (items : List (List (Pt × Pt))) (order : List ℕ) (place : ℕ) → place < length order →
     uses_from 0 (in_order items (take (place + 1) order)) ≡
     uses_from 0 (in_order items (take place order)) ++ map (edge_use place)
-        (slice_index_or items (get_or order place 0) [])
+    (slice_index_or items (get_or order place 0) [])
 in_order_more items order place h =
     let front : List (List (Pt × Pt)) = in_order items (take place order) in
     let edges : List (Pt × Pt) = slice_index_or items (get_or order place 0) [] in
@@ -125,7 +124,7 @@ in_order_more items order place h =
     ap (uses_from 0) (map_more (λ number. slice_index_or items number []) order place 0 h)
     ∙ (uses_from_push 0 (in_order items (take place order)) (slice_index_or items (get_or order place 0) [])
     ∙ ap (λ m. uses_from 0 (in_order items (take place order)) ++ map (edge_use m)
-        (slice_index_or items (get_or order place 0) [])) len)
+    (slice_index_or items (get_or order place 0) [])) len)
 
 -- the edge uses of items have their ranks, and the keys of their edges
 pub All-uses_from : (r n : ℕ) (items : List (List (Pt × Pt))) → r + length items ≤ n →
@@ -134,4 +133,4 @@ All-uses_from r n [] h = All-nil (IsUseBelow n)
 All-uses_from r n (edges ∷ items) h =
     All-append (IsUseBelow n) (map (edge_use r) edges) (uses_from (r + 1) items)
     (All-map (IsUseBelow n) (edge_use r) edges (λ k d l. record { key = refl; rank = omega arith }))
-        (All-uses_from (r + 1) n items (omega arith))
+    (All-uses_from (r + 1) n items (omega arith))

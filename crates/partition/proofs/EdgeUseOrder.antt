@@ -12,9 +12,8 @@ use Rattle.half_mesh.specs.declared.edges.Edge.{Edge}
 use Rattle.half_mesh.specs.Order.{edge_cmp}
 use Rattle.partition.specs.declared.edge_uses.EdgeUse.{EdgeUse}
 use Rattle.partition.specs.Internal.EdgeUses.{AreInOrder, HasEdgeKey, edge_key, use_at, no_use}
-use Rattle.partition.proofs.SameEdges.{
-  edges_from_one, on_one_edge-from, point_cmp_total, points_from_tie, same_edges, then_ties,
-}
+use Rattle.partition.proofs.SameEdges.{edges_from_one, on_one_edge-from, point_cmp_total, points_from_tie, same_edges}
+use Rattle.partition.proofs.SameEdges.{then_ties}
 
 -- by key, then by edge, then by rank
 abbrev pub use_cmp : EdgeUse → EdgeUse → Ordering
@@ -68,7 +67,7 @@ key_rises uses s a b h l =
     not_less_from_cmp (use_at uses b).key (use_at uses a).key
     (first_not_less (nat_cmp (use_at uses b).key (use_at uses a).key)
     (ordering_then (edge_cmp (use_at uses b).edge (use_at uses a).edge)
-        (nat_cmp (use_at uses b).rank (use_at uses a).rank)) (rises uses s a b h l))
+    (nat_cmp (use_at uses b).rank (use_at uses a).rank)) (rises uses s a b h l))
 
 -- at one key the edges rise, and on one edge the ranks
 edge_rises : (uses : List EdgeUse) → IsSorted use_cmp uses → (a b : ℕ) → a ≤ b → b < length uses →
@@ -78,7 +77,7 @@ edge_rises : (uses : List EdgeUse) → IsSorted use_cmp uses → (a b : ℕ) →
 edge_rises uses s a b h l e =
     second_not_less (use_at uses b).key (use_at uses a).key
     (ordering_then (edge_cmp (use_at uses b).edge (use_at uses a).edge)
-        (nat_cmp (use_at uses b).rank (use_at uses a).rank)) e (rises uses s a b h l)
+    (nat_cmp (use_at uses b).rank (use_at uses a).rank)) e (rises uses s a b h l)
 
 pub in_order_from_sorted : (uses : List EdgeUse) → All HasEdgeKey uses → IsSorted use_cmp uses → AreInOrder uses
 in_order_from_sorted uses own s = record {
@@ -90,11 +89,11 @@ in_order_from_sorted uses own s = record {
       let to_b : (use_at uses p).key ≤ (use_at uses b).key = key_rises uses s p b k l in
       let first : is_lt (edge_cmp (use_at uses p).edge (use_at uses a).edge) ≡ false =
       first_not_less (edge_cmp (use_at uses p).edge (use_at uses a).edge)
-          (nat_cmp (use_at uses p).rank (use_at uses a).rank)
+      (nat_cmp (use_at uses p).rank (use_at uses a).rank)
       (edge_rises uses s a p h (omega arith) (omega arith)) in
       let last : is_lt (edge_cmp (use_at uses b).edge (use_at uses p).edge) ≡ false =
       first_not_less (edge_cmp (use_at uses b).edge (use_at uses p).edge)
-          (nat_cmp (use_at uses b).rank (use_at uses p).rank)
+      (nat_cmp (use_at uses b).rank (use_at uses p).rank)
       (edge_rises uses s p b k l (omega arith)) in
       let P : Edge → Type 0 = λ e. is_lt (edge_cmp e (use_at uses p).edge) ≡ false in
       let lower : is_lt (edge_cmp (use_at uses a).edge (use_at uses p).edge) ≡ false = subst P (sym same) last in
@@ -102,17 +101,17 @@ in_order_from_sorted uses own s = record {
       ap is_lt (sym (edge_cmp_total.antisymm (use_at uses p).edge (use_at uses a).edge)) ∙ first in
       on_one_edge-from (use_at uses a) (use_at uses p)
       (edges_from_tie (use_at uses a).edge (use_at uses p).edge
-          (tie (edge_cmp (use_at uses a).edge (use_at uses p).edge) lower upper));
+      (tie (edge_cmp (use_at uses a).edge (use_at uses p).edge) lower upper));
   ascend = λ a b h l one.
       let same : (use_at uses a).edge ≡ (use_at uses b).edge = edges_from_one (use_at uses a) (use_at uses b) one in
       let key : (use_at uses b).key ≡ (use_at uses a).key =
       keys_from_edge (use_at uses b) (use_at uses a) (own b no_use l) (own a no_use (omega arith)) (sym same) in
       let P : Edge → Type 0 =
-          λ e. is_lt (ordering_then (edge_cmp (use_at uses b).edge e)
-          (nat_cmp (use_at uses b).rank (use_at uses a).rank)) ≡ false in
+      λ e. is_lt (ordering_then (edge_cmp (use_at uses b).edge e)
+      (nat_cmp (use_at uses b).rank (use_at uses a).rank)) ≡ false in
       let tied : edge_cmp (use_at uses b).edge (use_at uses b).edge ≡ Equal =
-          tied_itself edge_cmp_total (use_at uses b).edge in
+      tied_itself edge_cmp_total (use_at uses b).edge in
       not_less_from_cmp (use_at uses b).rank (use_at uses a).rank
       (ap (λ o. is_lt (ordering_then o (nat_cmp (use_at uses b).rank (use_at uses a).rank))) (sym tied) ∙
-          subst P same (edge_rises uses s a b h l key));
+      subst P same (edge_rises uses s a b h l key));
 }

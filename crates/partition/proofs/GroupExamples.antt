@@ -1,7 +1,6 @@
 -- Worked examples of batches, clusters and groups, computed by the checker.
-use Rattle.std.proofs.Common.{
-  ◌≡◌, ◌<◌, ◌≤◌, ◌+◌, ℕ, zero, suc, ◌∷◌, [], List, pos, true, length, get_or, refl, ap, arith,
-}
+use Rattle.std.proofs.Common.{◌≡◌, ◌<◌, ◌≤◌, ◌+◌, ℕ, zero, suc, ◌∷◌, [], List, pos, true, length, get_or, refl, ap}
+use Rattle.std.proofs.Common.{arith}
 use Rattle.std.proofs.lemmas.Bool.{false≢true}
 use Rattle.std.specs.List.{concat}
 use Rattle.geom_core.specs.declared.points.Pt.{Pt}
@@ -132,7 +131,7 @@ clusters_not_by_number c = absurd (false≢true c.grown)
 abbrev sharing : List Tri
 sharing =
     record { a = at 0 0; b = at 8 0; c = at 8 8 } ∷ record { a = at 0 0; b = at 0 8; c = at 0 4 } ∷ record
-        { a = at 8 0; b = at 16 0; c = at 8 8 } ∷ []
+    { a = at 8 0; b = at 16 0; c = at 8 8 } ∷ []
 
 pub clusters_by_edge : AreClusters sharing ((0 ∷ 2 ∷ 1 ∷ []) ∷ [])
 unfolding is_grown is_next share_edge same_edge same_point edges_of low_of morton_of cell_of interleave batches_of

@@ -1,11 +1,8 @@
 -- Lists of the edges of items, as one more item is added, as a shared edge ends, and when all are added.
-use Rattle.std.proofs.Common.{
-  ◌≡◌, ◌≢◌, ◌<◌, ◌≤◌, ◌+◌, inl, inr, ℕ, List, [], ◌∷◌, ◌++◌, Option, Some, None, length, get_or, set, refl, sym, ap,
-  ◌∙◌, arith,
-}
-use Rattle.std.proofs.lemmas.List.{
-  get_or_append_left, get_or_push, get_or-set_same, get_or-set_other, length-set, length_push,
-}
+use Rattle.std.proofs.Common.{◌≡◌, ◌≢◌, ◌<◌, ◌≤◌, ◌+◌, inl, inr, ℕ, List, [], ◌∷◌, ◌++◌, Option, Some, None, length}
+use Rattle.std.proofs.Common.{get_or, set, refl, sym, ap, ◌∙◌, arith}
+use Rattle.std.proofs.lemmas.List.{get_or_append_left, get_or_push, get_or-set_same, get_or-set_other, length-set}
+use Rattle.std.proofs.lemmas.List.{length_push}
 use Rattle.std.proofs.lemmas.List.Elements.{Contains-get_or}
 use Rattle.std.proofs.lemmas.Bool.{cases_eq, cases_lt}
 use Rattle.partition.specs.declared.edges_of_item.ItemEdge.{ItemEdge}
@@ -77,29 +74,44 @@ ListsEdgesUpTo-more shared count end upto last item_edges item item_edge last' i
       counted = length-set last item (Some (length item_edges)) ∙ is.counted;
       whole = omega (arith, length_push is.items item, length_push item_edges item_edge, is.whole);
       lasts = λ i h. elim (cases_eq item i) [
-        | inl same ↦ rw (← same, get_or-set_same last item (Some (length item_edges)) None (omega (arith, is.counted)),
-            ← is.whole) (IsLastBefore-push_same is.items item)
+        | inl same ↦ rw (
+          ← same,
+          get_or-set_same last item (Some (length item_edges)) None (omega (arith, is.counted)),
+          ← is.whole,
+        ) (IsLastBefore-push_same is.items item)
         | inr other ↦ rw (get_or-set_other last item i (Some (length item_edges)) None (λ e. other (sym e)))
             (IsLastBefore-push_other is.items item i (get_or last i None) other (is.lasts i h))
       ];
       previous = λ p d h. elim (cases_lt p (length is.items)) [
-        | inl before ↦ rw (get_or_append_left is.items (item ∷ []) 0 p before,
-            get_or_append_left item_edges (item_edge ∷ []) d p (omega arith))
+        | inl before ↦ rw (
+          get_or_append_left is.items (item ∷ []) 0 p before,
+          get_or_append_left item_edges (item_edge ∷ []) d p (omega arith),
+        )
             (IsLastBefore-append is.items item (get_or is.items p 0) p (get_or item_edges p d).previous (omega arith)
             (is.previous p d before))
         | inr past ↦
             let here : length is.items ≡ p = omega (arith, length_push is.items item) in
-            rw (get_or_push is.items item 0 p here, get_or_push item_edges item_edge d p (omega arith), previous_is,
-                ← here) (IsLastBefore-append is.items item item (length is.items) (get_or last item None) (omega arith)
-                (is.lasts item below))
+            rw (
+              get_or_push is.items item 0 p here,
+              get_or_push item_edges item_edge d p (omega arith),
+              previous_is,
+              ← here,
+            ) (IsLastBefore-append is.items item item (length is.items) (get_or last item None) (omega arith)
+            (is.lasts item below))
       ];
       sound = λ p d h. elim (cases_lt p (length is.items)) [
-        | inl before ↦ rw (get_or_append_left is.items (item ∷ []) 0 p before,
-            get_or_append_left item_edges (item_edge ∷ []) d p (omega arith)) (is.sound p d before)
+        | inl before ↦ rw (
+          get_or_append_left is.items (item ∷ []) 0 p before,
+          get_or_append_left item_edges (item_edge ∷ []) d p (omega arith),
+        ) (is.sound p d before)
         | inr past ↦
             let here : length is.items ≡ p = omega (arith, length_push is.items item) in
-            rw (get_or_push is.items item 0 p here, get_or_push item_edges item_edge d p (omega arith), edge_is,
-                ← at_upto) (on_edges, Contains-get_or (get_or shared end []) upto 0 on_edge)
+            rw (
+              get_or_push is.items item 0 p here,
+              get_or_push item_edges item_edge d p (omega arith),
+              edge_is,
+              ← at_upto,
+            ) (on_edges, Contains-get_or (get_or shared end []) upto 0 on_edge)
       ];
       complete = λ edge at in_all in_its entered. elim entered [
         | inl earlier ↦ HasItemEdge-push is.items item_edges item item_edge

@@ -1,8 +1,6 @@
 -- Marks of placed items: what is marked, how many are, and that another one is left.
-use Rattle.std.proofs.Common.{
-  ◌≡◌, ◌≢◌, ◌<◌, ◌+◌, inl, inr, ℕ, zero, suc, Bool, true, false, List, [], ◌∷◌, ◌++◌, length, get_or, set, count_by,
-  cond, refl, sym, ap, ◌∙◌, arith,
-}
+use Rattle.std.proofs.Common.{◌≡◌, ◌≢◌, ◌<◌, ◌+◌, inl, inr, ℕ, zero, suc, Bool, true, false, List, [], ◌∷◌, ◌++◌}
+use Rattle.std.proofs.Common.{length, get_or, set, count_by, cond, refl, sym, ap, ◌∙◌, arith}
 use Rattle.std.proofs.lemmas.Bool.{cases_eq, true≢false}
 use Rattle.std.proofs.lemmas.List.{get_or-set_same, get_or-set_other, length-set}
 use Rattle.std.proofs.lemmas.List.Sums.{sum_by-cons, sum_by-set}
@@ -23,7 +21,7 @@ some_left [] h = absurd (omega arith)
 some_left (false ∷ placed) h = (0, refl)
 some_left (true ∷ placed) h =
     let count : count_by (λ b. b) (true ∷ placed) ≡ 1 + count_by (λ b. b) placed =
-        sum_by-cons (λ b. cond b 1 0) true placed in
+    sum_by-cons (λ b. cond b 1 0) true placed in
     let found : SomeLeft placed = some_left placed (omega arith) in
     (suc found.0, found.1)
 
@@ -54,7 +52,7 @@ count-more placed item left =
     let weight : Bool → ℕ = λ b. cond b 1 0 in
     let none : weight (get_or placed item true) ≡ 0 = ap weight left in
     let sums : count_by (λ b. b) (set placed item true) + weight (get_or placed item true) ≡ count_by
-        (λ b. b) placed + 1 =
+    (λ b. b) placed + 1 =
     sum_by-set weight placed item true true below in
     omega (arith, sums, none)
 
@@ -67,7 +65,7 @@ marks-more placed order item below marks other h =
       | inl same ↦ rw (← same) (get_or-set_same placed item true true below ∙ sym (is_in-push_same order item))
       | inr differ ↦
           get_or-set_other placed item other true true (λ e. differ (sym e)) ∙
-              marks other (omega (arith, length-set placed item true))
+          marks other (omega (arith, length-set placed item true))
           ∙ sym (is_in-push_other order item other differ)
     ]
 

@@ -1,13 +1,9 @@
 -- The next item: what the frontier gives is what the rule asks for.
-use Rattle.std.proofs.Common.{
-  ◌≡◌, ◌≢◌, ◌<◌, ◌≤◌, ◌⊎◌, inl, inr, ℕ, Bool, true, false, not, ◌&&◌, ◌||◌, eqb, ltb, cond, List, [], length, get_or,
-  Contains, refl, sym, ◌∙◌, arith,
-}
+use Rattle.std.proofs.Common.{◌≡◌, ◌≢◌, ◌<◌, ◌≤◌, ◌⊎◌, inl, inr, ℕ, Bool, true, false, not, ◌&&◌, ◌||◌, eqb, ltb, cond}
+use Rattle.std.proofs.Common.{List, [], length, get_or, Contains, refl, sym, ◌∙◌, arith}
 use Rattle.std.specs.List.{list_all, range_with_len}
-use Rattle.std.proofs.lemmas.Bool.{
-  lt-ltb, ltb-true, eq-eqb, eqb-true, or_cases, or_left, or_right, and_from, and_parts, cases_eq, cases_lt, cases_Bool,
-  both_ways, not-true, not_from_false,
-}
+use Rattle.std.proofs.lemmas.Bool.{lt-ltb, ltb-true, eq-eqb, eqb-true, or_cases, or_left, or_right, and_from, and_parts}
+use Rattle.std.proofs.lemmas.Bool.{cases_eq, cases_lt, cases_Bool, both_ways, not-true, not_from_false}
 use Rattle.std.proofs.lemmas.List.{get_or_default}
 use Rattle.std.proofs.lemmas.List.Elements.{Contains-get_or}
 use Rattle.partition.specs.Internal.Frontiers.{HasLesser, HasLeastOf, IsLeastLeft, IsLeft, NoneLeft}
@@ -16,9 +12,8 @@ use Rattle.partition.specs.Internal.Growths.{Grows, IsNextLeft, IsPlacedBelow, T
 use Rattle.partition.specs.Internal.EdgesOfItem.{EdgeHasItem}
 use Rattle.partition.specs.Internal.SharedEdges.{are_adjacent}
 use Rattle.partition.proofs.Marks.{left_below}
-use Rattle.partition.proofs.Members.{
-  Passes, is_in-from, is_in-true, list_all-from, list_all-at, list_any-from, list_any-true,
-}
+use Rattle.partition.proofs.Members.{Passes, is_in-from, is_in-true, list_all-from, list_all-at, list_any-from}
+use Rattle.partition.proofs.Members.{list_any-true}
 
 -- what the test of the next item says
 pub record IsNext (n : ℕ) (key : ℕ → ℕ) (near : ℕ → ℕ → Bool) (placed batch : List ℕ) (i : ℕ) : Type 0 where
@@ -56,12 +51,12 @@ is_next-is n key near placed batch i h =
       first =
           λ j below left. elim (or_cases (is_in placed j || eqb i j) (goes_before key near batch i j)
           (list_all-at test 0 n parts.1 j (omega arith) (omega arith))) [
-        | inl either ↦ elim (or_cases (is_in placed j) (eqb i j) either) [
-          | inl in_placed ↦ absurd (both_ways (is_in placed j) left in_placed)
-          | inr same ↦ inl (eqb-true i j same)
-        ]
-        | inr before ↦ inr before
-      ];
+            | inl either ↦ elim (or_cases (is_in placed j) (eqb i j) either) [
+              | inl in_placed ↦ absurd (both_ways (is_in placed j) left in_placed)
+              | inr same ↦ inl (eqb-true i j same)
+            ]
+            | inr before ↦ inr before
+          ];
     }
 
 -- between the test of neighbours and what it means
@@ -71,15 +66,15 @@ touches-from shared batch item is =
     let edge : List ℕ = get_or shared is.edge [] in
     list_any-from (λ j. are_adjacent shared j item) batch is.member is.in_batch
     (list_any-from (λ edge. is_in edge is.member && is_in edge item) shared edge
-        (Contains-get_or shared is.edge [] is.with_member.0)
+    (Contains-get_or shared is.edge [] is.with_member.0)
     (and_from (is_in edge is.member) (is_in edge item) (is_in-from edge is.member is.with_member.1)
-        (is_in-from edge item is.with_item.1)))
+    (is_in-from edge item is.with_item.1)))
 
 pub touches-true : (shared : List (List ℕ)) (batch : List ℕ) (item : ℕ) →
     touches (are_adjacent shared) batch item ≡ true → Touches shared batch item
 touches-true shared batch item h =
     let member : Passes (λ j. are_adjacent shared j item) batch =
-        list_any-true (λ j. are_adjacent shared j item) batch h in
+    list_any-true (λ j. are_adjacent shared j item) batch h in
     let holds : ℕ → List ℕ → Bool = λ j edge. is_in edge j && is_in edge item in
     let edge : Passes (holds member.item) shared = list_any-true (holds member.item) shared member.passes in
     let both = and_parts (is_in edge.item member.item) (is_in edge.item item) edge.passes in
@@ -110,7 +105,7 @@ lesser_of : (shared : List (List ℕ)) (batch : List ℕ) (placed : List Bool) (
 lesser_of shared batch placed queue j ready left h =
     let is : Touches shared batch j = touches-true shared batch j h in
     let has : HasLesser (get_or shared is.edge []) placed queue j =
-        ready is.edge is.member is.in_batch is.with_member j is.with_item.1 left in
+    ready is.edge is.member is.in_batch is.with_member j is.with_item.1 left in
     (has.lesser, has.queued, has.le, has.left)
 
 -- the least of the queue goes first

@@ -1,13 +1,10 @@
 -- Each item is in a grown order once.
-use Rattle.std.proofs.Common.{
-  ◌≡◌, ◌≢◌, ◌<◌, ◌≤◌, ◌+◌, inl, inr, ℕ, zero, suc, Bool, true, false, eqb, cond, List, [], ◌∷◌, ◌++◌, length, get_or,
-  set, take, replicate, count_by, Contains, refl, sym, ap, ◌∙◌, arith,
-}
+use Rattle.std.proofs.Common.{◌≡◌, ◌≢◌, ◌<◌, ◌≤◌, ◌+◌, inl, inr, ℕ, zero, suc, Bool, true, false, eqb, cond, List, []}
+use Rattle.std.proofs.Common.{◌∷◌, ◌++◌, length, get_or, set, take, replicate, count_by, Contains, refl, sym, ap, ◌∙◌}
+use Rattle.std.proofs.Common.{arith}
 use Rattle.std.proofs.lemmas.Bool.{both_ways, cases_order, eq-eqb, ne_eqb, true_from_ne_false}
-use Rattle.std.proofs.lemmas.List.{
-  get_or_default, get_or-replicate, get_or-take, length-replicate, length-set, length-take-le, length_push, take_all,
-  take_more,
-}
+use Rattle.std.proofs.lemmas.List.{get_or_default, get_or-replicate, get_or-take, length-replicate, length-set}
+use Rattle.std.proofs.lemmas.List.{length-take-le, length_push, take_all, take_more}
 use Rattle.std.proofs.lemmas.List.Sums.{count_by-le-length, sum_by-cons}
 use Rattle.partition.specs.Internal.Frontiers.{IsLeft}
 use Rattle.partition.specs.Growing.{batch_before, is_in}
@@ -30,13 +27,13 @@ pub places_differ : (n : ℕ) (key : ℕ → ℕ) (near : ℕ → ℕ → Bool) 
     (p q : ℕ) → p < q → q < n → get_or order p 0 ≢ get_or order q 0
 places_differ n key near size order is p q before h same =
     let next : IsNext n key near (take q order) (batch_before size order q) (get_or order q 0) =
-        next_at n key near size order is q h in
+    next_at n key near size order is q h in
     let within : p < length (take q order) = omega (arith, length-take-le q order (omega (arith, is.whole))) in
     let at : get_or (take q order) p (get_or order q 0) ≡ get_or order q 0 =
     get_or-take q order p (get_or order q 0) before ∙
-        get_or_default order p (get_or order q 0) 0 (omega (arith, is.whole)) ∙ same in
+    get_or_default order p (get_or order q 0) 0 (omega (arith, is.whole)) ∙ same in
     both_ways (is_in (take q order) (get_or order q 0)) next.left
-        (is_in-from (take q order) (get_or order q 0) (p, within, at))
+    (is_in-from (take q order) (get_or order q 0) (p, within, at))
 
 -- one place has one item
 pub place_is_one : (n : ℕ) (key : ℕ → ℕ) (near : ℕ → ℕ → Bool) (size : ℕ) (order : List ℕ) →
@@ -70,10 +67,10 @@ front_marked n key near size order is (suc k) h =
     let before : IsMarked n (take k order) = front_marked n key near size order is k (omega arith) in
     let item : ℕ = get_or order k 0 in
     let next : IsNext n key near (take k order) (batch_before size order k) item =
-        next_at n key near size order is k (omega arith) in
+    next_at n key near size order is k (omega arith) in
     let one : suc k ≡ k + 1 = omega arith in
     let more : take (suc k) order ≡ take k order ++ item ∷ [] =
-        ap (λ j. take j order) one ∙ take_more order k 0 (omega (arith, is.whole)) in
+    ap (λ j. take j order) one ∙ take_more order k 0 (omega (arith, is.whole)) in
     let long : length before.marks ≡ n = before.long in
     let left : IsLeft before.marks item = before.are item next.below ∙ next.left in
     rw more (record {
@@ -98,7 +95,7 @@ item_placed n key near size order is item h =
     let count : count_by (λ b. b) all.marks ≡ n = all.counted ∙ ap length whole ∙ is.whole in
     let more = count-more all.marks item left in
     let most : count_by (λ b. b) (set all.marks item true) ≤ length (set all.marks item true) =
-        count_by-le-length (λ b. b) (set all.marks item true) in
+    count_by-le-length (λ b. b) (set all.marks item true) in
     absurd (omega (arith, length-set all.marks item true, all.long))))
 
 -- a count of none, and of one
@@ -122,8 +119,13 @@ count_one p (x ∷ xs) (suc at) h is others =
     let weight : ℕ → ℕ = λ y. cond (p y) 1 0 in
     let here : weight x ≡ 0 = ap (λ b. cond b 1 0) (others 0 (omega arith) (λ e. absurd (omega (arith, e)))) in
     let first : count_by p (x ∷ xs) ≡ weight x + count_by p xs = sum_by-cons weight x xs in
-    omega (arith, first, here, count_one p xs at (omega arith) is
-        (λ k g differ. others (suc k) (omega arith) (λ e. differ (omega (arith, e)))))
+    omega (
+      arith,
+      first,
+      here,
+      count_one p xs at (omega arith) is
+          (λ k g differ. others (suc k) (omega arith) (λ e. differ (omega (arith, e)))),
+    )
 
 pub placed_once : (n : ℕ) (key : ℕ → ℕ) (near : ℕ → ℕ → Bool) (size : ℕ) (order : List ℕ) →
     IsGrown n key near size order →
@@ -134,4 +136,4 @@ placed_once n key near size order is item h =
     count_one (λ placed. eqb placed item) order at.0 at.1 (eq-eqb (get_or order at.0 0) item is_at) (λ k below differ.
     ne_eqb (get_or order k 0) item (λ same.
     differ (place_is_one n key near size order is k at.0 (omega (arith, is.whole)) (omega (arith, is.whole, at.1))
-        (same ∙ sym is_at))))
+    (same ∙ sym is_at))))

@@ -1,16 +1,15 @@
 -- A list that has each number below n once is these numbers in another order, and so is what each number names.
-use Rattle.std.proofs.Common.{
-  ◌≡◌, ◌<◌, ◌+◌, inl, inr, ℕ, zero, suc, Bool, eqb, cond, List, [], ◌∷◌, ◌++◌, length, get_or, map, count_by,
-  IsPermutation, refl, sym, ap, ◌∙◌, subst, arith, append-nil, append_assoc, true,
-}
+use Rattle.std.proofs.Common.{◌≡◌, ◌<◌, ◌+◌, inl, inr, ℕ, zero, suc, Bool, eqb, cond, List, [], ◌∷◌, ◌++◌, length}
+use Rattle.std.proofs.Common.{get_or, map, count_by, IsPermutation, refl, sym, ap, ◌∙◌, subst, arith, append-nil}
+use Rattle.std.proofs.Common.{append_assoc, true}
 use Rattle.std.specs.List.{concat, flat_map, range_with_len, slice_index_or}
 use Rattle.std.proofs.lemmas.Bool.{cases_eq, ne_eqb}
 use Rattle.std.proofs.lemmas.List.{map-id}
 use Rattle.std.proofs.lemmas.List.Concat.{flat_map-append, flat_map_single}
-use Rattle.std.proofs.lemmas.List.Sorted.{
-  IsPermutation-append_comm, IsPermutation-append_left, IsPermutation-append_right, IsPermutation-middle,
-  IsPermutation-refl, IsPermutation-sym, IsPermutation-trans, length_permutation, sum_by-IsPermutation,
-}
+use Rattle.std.proofs.lemmas.List.Sorted.{IsPermutation-append_comm, IsPermutation-append_left}
+use Rattle.std.proofs.lemmas.List.Sorted.{IsPermutation-append_right, IsPermutation-middle, IsPermutation-refl}
+use Rattle.std.proofs.lemmas.List.Sorted.{IsPermutation-sym, IsPermutation-trans, length_permutation}
+use Rattle.std.proofs.lemmas.List.Sorted.{sum_by-IsPermutation}
 use Rattle.std.proofs.lemmas.List.Sums.{sum_by-cons}
 use Rattle.partition.specs.Batches.{pick}
 use Rattle.partition.specs.Growing.{is_grown}
@@ -35,7 +34,7 @@ parts_at (y ∷ ys) x h =
           let weight : ℕ → ℕ = λ z. cond (eqb z x) 1 0 in
           let here : weight y ≡ 0 = ap (λ b. cond b 1 0) (ne_eqb y x other) in
           let all : count_by (λ z. eqb z x) (y ∷ ys) ≡ weight y + count_by (λ z. eqb z x) ys =
-              sum_by-cons weight y ys in
+          sum_by-cons weight y ys in
           let rest : Parts ys x = parts_at ys x (omega (arith, all, here)) in
           record { front = y ∷ rest.front; back = rest.back; is = ap (λ zs. y ∷ zs) rest.is }
     ]
@@ -50,9 +49,9 @@ once_without m xs rest moved once item h =
     let weight : ℕ → ℕ = λ y. cond (eqb y item) 1 0 in
     let here : weight m ≡ 0 = ap (λ b. cond b 1 0) (ne_eqb m item (λ e. absurd (omega (arith, e)))) in
     let all : count_by (λ y. eqb y item) (m ∷ rest) ≡ weight m + count_by (λ y. eqb y item) rest =
-        sum_by-cons weight m rest in
+    sum_by-cons weight m rest in
     let same : count_by (λ y. eqb y item) (m ∷ rest) ≡ count_by (λ y. eqb y item) xs =
-        sum_by-IsPermutation weight xs (m ∷ rest) moved in
+    sum_by-IsPermutation weight xs (m ∷ rest) moved in
     omega (arith, here, all, same, once item (omega arith))
 
 -- ---- what the numbers of a list name, joined
@@ -80,23 +79,23 @@ named_permuted {X} f (suc m) xs len once =
     let p : Parts xs m = parts_at xs m (omega (arith, once m (omega arith))) in
     let rest : List ℕ = p.front ++ p.back in
     let moved : IsPermutation xs (m ∷ rest) =
-        subst (λ zs. IsPermutation zs (m ∷ rest)) (sym p.is) (IsPermutation-middle p.front m p.back) in
+    subst (λ zs. IsPermutation zs (m ∷ rest)) (sym p.is) (IsPermutation-middle p.front m p.back) in
     let shorter : length rest ≡ m = omega (arith, len, length_permutation xs (m ∷ rest) moved) in
     let below : IsPermutation (flat_map f rest) (flat_map f (range_with_len 0 m)) =
-        named_permuted f m rest shorter (once_without m xs rest moved once) in
+    named_permuted f m rest shorter (once_without m xs rest moved once) in
     let split : flat_map f xs ≡ flat_map f p.front ++ (f m ++ flat_map f p.back) =
-        ap (flat_map f) p.is ∙ flat_map-append f p.front (m ∷ p.back) in
+    ap (flat_map f) p.is ∙ flat_map-append f p.front (m ∷ p.back) in
     let last : IsPermutation (flat_map f xs) ((flat_map f p.front ++ flat_map f p.back) ++ f m) =
     subst (λ zs. IsPermutation zs ((flat_map f p.front ++ flat_map f p.back) ++ f m)) (sym split)
-        (middle_last (flat_map f p.front) (f m) (flat_map f p.back)) in
+    (middle_last (flat_map f p.front) (f m) (flat_map f p.back)) in
     let joined : (flat_map f p.front ++ flat_map f p.back) ++ f m ≡ flat_map f rest ++ f m =
-        ap (λ ys. ys ++ f m) (sym (flat_map-append f p.front p.back)) in
+    ap (λ ys. ys ++ f m) (sym (flat_map-append f p.front p.back)) in
     let P : List X → Type 0 = λ ys. IsPermutation (flat_map f xs) ys in
     let Q : List X → Type 0 = λ ys. IsPermutation (flat_map f rest ++ f m) ys in
     IsPermutation-trans (flat_map f xs) (flat_map f rest ++ f m) (flat_map f (range_with_len 0 (suc m)))
     (subst P joined last)
     (subst Q (sym (last_number f m)) (IsPermutation-append_left (f m) (flat_map f rest)
-        (flat_map f (range_with_len 0 m)) below))
+    (flat_map f (range_with_len 0 m)) below))
 
 -- ---- a grown order
 
@@ -117,7 +116,7 @@ grown_permutation n size key near order h =
     let P : List ℕ → Type 0 = λ xs. IsPermutation xs order in
     let Q : List ℕ → Type 0 = λ xs. IsPermutation (flat_map (λ x. x ∷ []) (range_with_len 0 n)) xs in
     subst P (single_is (range_with_len 0 n))
-        (subst Q (single_is order) (named_in_order (λ x. x ∷ []) n size key near order h))
+    (subst Q (single_is order) (named_in_order (λ x. x ∷ []) n size key near order h))
 
 -- ---- batches joined
 
@@ -168,13 +167,13 @@ lists_permuted {X} lists n len size key near batches h =
     let all : flat_map f (range_with_len 0 n) ≡ flat_map (λ list. list) lists =
     flat_map_of_map (λ (list : List X). list) f (range_with_len 0 n)
     ∙ (ap (λ m. flat_map (λ list. list) (map f (range_with_len 0 m))) (sym len) ∙
-        ap (flat_map (λ list. list)) (positions lists [])) in
+    ap (flat_map (λ list. list)) (positions lists [])) in
     let each : flat_map f (concat batches) ≡ flat_map (λ batch. flat_map (λ list. list) (pick lists [] batch)) batches =
     named_by_batch f batches
     ∙ flat_map_same (λ batch. flat_map f batch) (λ batch. flat_map (λ list. list) (pick lists [] batch))
-        (λ batch. flat_map_of_map (λ (list : List X). list) f batch) batches in
+    (λ batch. flat_map_of_map (λ (list : List X). list) f batch) batches in
     let P : List X → Type 0 =
-        λ xs. IsPermutation xs (flat_map (λ batch. flat_map (λ list. list) (pick lists [] batch)) batches) in
+    λ xs. IsPermutation xs (flat_map (λ batch. flat_map (λ list. list) (pick lists [] batch)) batches) in
     let Q : List X → Type 0 = λ ys. IsPermutation (flat_map f (range_with_len 0 n)) ys in
     subst P all (subst Q each (named_in_order f n size key near (concat batches) h))
 
@@ -189,7 +188,7 @@ items_permuted {X} items other n len size key near batches h =
     flat_map_single g (range_with_len 0 n) ∙ (ap (λ m. map g (range_with_len 0 m)) (sym len) ∙ positions items other) in
     let each : flat_map f (concat batches) ≡ flat_map (pick items other) batches =
     named_by_batch f batches ∙ flat_map_same (λ batch. flat_map f batch) (pick items other)
-        (λ batch. flat_map_single g batch) batches in
+    (λ batch. flat_map_single g batch) batches in
     let P : List X → Type 0 = λ xs. IsPermutation xs (flat_map (pick items other) batches) in
     let Q : List X → Type 0 = λ ys. IsPermutation (flat_map f (range_with_len 0 n)) ys in
     subst P all (subst Q each (named_in_order f n size key near (concat batches) h))

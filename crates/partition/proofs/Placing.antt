@@ -1,12 +1,9 @@
 -- One more item is placed: what of the growth stays, and what of the frontier.
-use Rattle.std.proofs.Common.{
-  ◌≡◌, ◌≢◌, ◌<◌, ◌+◌, ◌*◌, ◌/◌, ◌%◌, inl, inr, ℕ, Bool, true, List, [], ◌∷◌, ◌++◌, length, get_or, set, drop, Contains,
-  refl, sym, ap, ◌∙◌, arith,
-}
+use Rattle.std.proofs.Common.{◌≡◌, ◌≢◌, ◌<◌, ◌+◌, ◌*◌, ◌/◌, ◌%◌, inl, inr, ℕ, Bool, true, List, [], ◌∷◌, ◌++◌, length}
+use Rattle.std.proofs.Common.{get_or, set, drop, Contains, refl, sym, ap, ◌∙◌, arith}
 use Rattle.std.proofs.lemmas.Bool.{cases_Bool, cases_eq, cases_lt, both_ways}
-use Rattle.std.proofs.lemmas.List.{
-  get_or_append_left, get_or_push, length-set, length_push, take_all, take_at, take-append-le, drop-append-le, drop_all,
-}
+use Rattle.std.proofs.lemmas.List.{get_or_append_left, get_or_push, length-set, length_push, take_all, take_at}
+use Rattle.std.proofs.lemmas.List.{take-append-le, drop-append-le, drop_all}
 use Rattle.std.proofs.lemmas.List.Elements.{Contains-append_left, Contains-push, Contains-push_cases}
 use Rattle.std.proofs.lemmas.Nat.{div-add-mod', div-mul-add, mod-mul-add}
 use Rattle.partition.specs.Internal.Frontiers.{AddsNeighbours, AreCursors, HasLeastOfEach, HasLesser, HasLeastOf, Keeps}
@@ -43,10 +40,10 @@ batch_of-more size order item some within =
     let first : ℕ = length order / size * size in
     let whole : first + length order % size ≡ length order = div-add-mod' (length order) size in
     let starts : length (order ++ item ∷ []) / size * size ≡ first =
-        ap (λ n. n / size * size) (length_push order item) ∙
-        ap (λ q. q * size) (div-next (length order) size some within) in
+    ap (λ n. n / size * size) (length_push order item) ∙
+    ap (λ q. q * size) (div-next (length order) size some within) in
     batch_of-is size (order ++ item ∷ []) ∙ ap (λ n. drop n (order ++ item ∷ [])) starts ∙
-        drop-append-le first order (item ∷ []) (omega arith)
+    drop-append-le first order (item ∷ []) (omega arith)
     ∙ ap (λ batch. batch ++ item ∷ []) (sym (batch_of-is size order))
 
 -- after a full batch the next one is empty
@@ -80,7 +77,7 @@ pub Grows-more : (shared : List (List ℕ)) (size : ℕ) (placed : List Bool) (o
     Grows shared size (set placed item true) (order ++ item ∷ []) least cursors' queue'
 Grows-more shared size placed order least cursors queue item cursors' queue' grows next passed queued =
     let is : IsNext (length placed) (λ _. 0) (are_adjacent shared) order (batch_of size order) item =
-        is_next-is (length placed) (λ _. 0) (are_adjacent shared) order (batch_of size order) item next in
+    is_next-is (length placed) (λ _. 0) (are_adjacent shared) order (batch_of size order) item next in
     let same : length (set placed item true) ≡ length placed = length-set placed item true in
     record {
       marks = marks-more placed order item is.below grows.marks;
@@ -157,9 +154,9 @@ ready-more shared size placed order item old new some within ready keeps entered
       | inl held ↦ entered edge (holds.0, is_in-true (get_or shared edge []) item held)
       | inr apart ↦
           let far : Contains (get_or shared edge []) item → ⊥ =
-              λ is. both_ways (is_in (get_or shared edge []) item) apart (is_in-from (get_or shared edge []) item is) in
+          λ is. both_ways (is_in (get_or shared edge []) item) apart (is_in-from (get_or shared edge []) item is) in
           elim (Contains-push_cases (batch_of size order) item member
-              (rw (batch_of-more size order item some within) at in_batch)) [
+          (rw (batch_of-more size order item some within) at in_batch)) [
             | inl before ↦ HasLeastOf-more (get_or shared edge []) placed item old new far keeps
                 (ready edge member before holds far)
             | inr same ↦ absurd (far (rw (sym same) at holds.1))
@@ -199,5 +196,5 @@ ready-after shared size placed order item old mid new some full room ready keeps
       | inr goes_on ↦
           let within = rw (length_push order item) at goes_on in
           rw (room goes_on) (ready-more shared size placed order item old mid some within ready keeps entered edge
-              member in_batch holds)
+          member in_batch holds)
     ]

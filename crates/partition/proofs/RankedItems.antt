@@ -1,8 +1,7 @@
 -- Items sorted by key and number are a ranking.
-use Rattle.std.proofs.Common.{
-  ◌≡◌, ℕ, ◌+◌, ◌<◌, true, false, ◌&&◌, ◌||◌, ◌==◌, nat_lt, List, [], ◌∷◌, length, get_or, map, All, IsPermutation,
-  IsSorted, refl, sym, ap, ◌∙◌, subst, arith, ◌⊎◌, inl, inr, slice_index, zero-add,
-}
+use Rattle.std.proofs.Common.{◌≡◌, ℕ, ◌+◌, ◌<◌, true, false, ◌&&◌, ◌||◌, ◌==◌, nat_lt, List, [], ◌∷◌, length, get_or}
+use Rattle.std.proofs.Common.{map, All, IsPermutation, IsSorted, refl, sym, ap, ◌∙◌, subst, arith, ◌⊎◌, inl, inr}
+use Rattle.std.proofs.Common.{slice_index, zero-add}
 use Rattle.std.specs.List.{enumerate_from, range_with_len, swap}
 use Rattle.std.specs.Ordering.{is_lt, nat_cmp, ordering_then}
 use Rattle.std.specs.Cmp.{IsTotalOrder}
@@ -12,9 +11,8 @@ use Rattle.std.proofs.lemmas.Bool.Decides.{nat_tests}
 use Rattle.std.proofs.lemmas.Cmp.{then_total, on_total, nat_cmp_total}
 use Rattle.std.proofs.lemmas.List.{length-map, get_or-map}
 use Rattle.std.proofs.lemmas.List.Edits.{swapped_from_swap, length-swap}
-use Rattle.std.proofs.lemmas.List.FromFn.{
-  length-range_with_len, get_or-range_with_len, length-enumerate_from, get_or-enumerate_from,
-}
+use Rattle.std.proofs.lemmas.List.FromFn.{length-range_with_len, get_or-range_with_len, length-enumerate_from}
+use Rattle.std.proofs.lemmas.List.FromFn.{get_or-enumerate_from}
 use Rattle.std.proofs.lemmas.List.Sorted.{ranks_by, sorted_far, IsPermutation-map, IsPermutation-keeps, All-permutation}
 use Rattle.partition.specs.declared.ranking.Keyed.{Keyed}
 use Rattle.partition.specs.Growing.{ranks_before}
@@ -51,7 +49,7 @@ one_to_one_after xs ys h start =
     IsPermutation-keeps xs IsOneToOne start (λ l a b ha hb one i j hi hj e.
     let len = length-swap l a b in
     swapped_one_to_one (λ i. get_or l i 0) (λ i. get_or (swap l a b) i 0) (length l) a b ha hb
-        (swapped_from_swap l (swap l a b) a b 0 ha hb refl) one
+    (swapped_from_swap l (swap l a b) a b 0 ha hb refl) one
     i j (omega arith) (omega arith) e (cases_eq i a) (cases_eq i b) (cases_eq j a) (cases_eq j b)) ys h
 
 range_one_to_one : (n : ℕ) → IsOneToOne (range_with_len 0 n)
@@ -100,8 +98,8 @@ before_from_cmp : (keys : List ℕ) (x y : Keyed) → HasItsKey keys x → HasIt
     ranks_before (slice_index keys) x.number y.number ≡ true
 before_from_cmp keys x y hx hy e apart =
     let P : ℕ → Type 0 =
-        λ k. (nat_lt k (slice_index keys y.number) || (k == slice_index keys y.number && nat_lt x.number y.number)) ≡
-        true in
+    λ k. (nat_lt k (slice_index keys y.number) || (k == slice_index keys y.number && nat_lt x.number y.number)) ≡
+    true in
     let Q : ℕ → Type 0 = λ k. (nat_lt x.key k || (x.key == k && nat_lt x.number y.number)) ≡ true in
     subst P hx (subst Q hy (lexical x.key y.key x.number y.number e apart))
 
@@ -112,17 +110,17 @@ ranking_from_sorted keys sorted h s =
     let all : IsPermutation (range_with_len 0 (length keys)) (map (λ (x : Keyed). x.number) sorted) =
     let P : List ℕ → Type 0 = λ xs. IsPermutation xs (map (λ (x : Keyed). x.number) sorted) in
     subst P (numbers_of_keyed 0 keys) (IsPermutation-map (λ (x : Keyed). x.number)
-        (map keyed (enumerate_from 0 keys)) sorted h) in
+    (map keyed (enumerate_from 0 keys)) sorted h) in
     let own : All (HasItsKey keys) sorted =
-        All-permutation (HasItsKey keys) (map keyed (enumerate_from 0 keys)) sorted h (keys_of_keyed keys) in
+    All-permutation (HasItsKey keys) (map keyed (enumerate_from 0 keys)) sorted h (keys_of_keyed keys) in
     let one : IsOneToOne (map (λ (x : Keyed). x.number) sorted) =
-        one_to_one_after (range_with_len 0 (length keys)) (map (λ (x : Keyed). x.number) sorted) all
-        (range_one_to_one (length keys)) in
+    one_to_one_after (range_with_len 0 (length keys)) (map (λ (x : Keyed). x.number) sorted) all
+    (range_one_to_one (length keys)) in
     record {
       all = all;
       ascends = λ i j l m.
           let len : length (map (λ (x : Keyed). x.number) sorted) ≡ length sorted =
-              length-map sorted (λ (x : Keyed). x.number) in
+          length-map sorted (λ (x : Keyed). x.number) in
           let x : Keyed = get_or sorted i none in
           let y : Keyed = get_or sorted j none in
           let at_i : get_or (map (λ (x : Keyed). x.number) sorted) i 0 ≡ (get_or sorted i none).number =
@@ -132,10 +130,10 @@ ranking_from_sorted keys sorted h s =
           let apart : (get_or sorted i none).number ≡ (get_or sorted j none).number → ⊥ =
           λ e. let same = one i j (omega arith) m (at_i ∙ (e ∙ sym at_j)) in absurd (omega arith) in
           let P : ℕ → Type 0 =
-              λ k. ranks_before (slice_index keys) k (get_or (map (λ (x : Keyed). x.number) sorted) j 0) ≡ true in
+          λ k. ranks_before (slice_index keys) k (get_or (map (λ (x : Keyed). x.number) sorted) j 0) ≡ true in
           let Q : ℕ → Type 0 = λ k. ranks_before (slice_index keys) (get_or sorted i none).number k ≡ true in
           subst P (sym at_i) (subst Q (sym at_j) (before_from_cmp keys x y (own i none (omega arith))
-              (own j none (omega arith))
+          (own j none (omega arith))
           (sorted_far (λ x y. is_lt (keyed_cmp x y)) (ranks_by keyed_cmp_total (λ (x : Keyed). x)) sorted s i j none
-              (omega arith) (omega arith)) apart));
+          (omega arith) (omega arith)) apart));
     }

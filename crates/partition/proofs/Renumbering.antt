@@ -1,21 +1,17 @@
 -- A grown order of ranks, each replaced by its number, is a grown order of the items.
-use Rattle.std.proofs.Common.{
-  ◌≡◌, ℕ, zero, suc, ◌+◌, ◌*◌, ◌/◌, ◌<◌, Bool, true, false, not, ◌&&◌, ◌||◌, ◌==◌, nat_lt, if◌then◌else◌, List, [], ◌∷◌,
-  length, take, drop, map, All, refl, sym, ap, ◌∙◌, subst, arith, ◌⊎◌, inl, inr, slice_index, add-zero, zero-add,
-}
+use Rattle.std.proofs.Common.{◌≡◌, ℕ, zero, suc, ◌+◌, ◌*◌, ◌/◌, ◌<◌, Bool, true, false, not, ◌&&◌, ◌||◌, ◌==◌, nat_lt}
+use Rattle.std.proofs.Common.{if◌then◌else◌, List, [], ◌∷◌, length, take, drop, map, All, refl, sym, ap, ◌∙◌, subst}
+use Rattle.std.proofs.Common.{arith, ◌⊎◌, inl, inr, slice_index, add-zero, zero-add}
 use Rattle.std.specs.List.{list_all, range_with_len}
 use Rattle.std.specs.Cmp.{both_ways}
-use Rattle.std.proofs.lemmas.Bool.{
-  and_parts, and_from, or_cases, or_left, or_right, not-true, not_from_false, eqb-true, eq-eqb, lt-ltb, ltb-true,
-  cases_order, false≢true,
-}
+use Rattle.std.proofs.lemmas.Bool.{and_parts, and_from, or_cases, or_left, or_right, not-true, not_from_false, eqb-true}
+use Rattle.std.proofs.lemmas.Bool.{eq-eqb, lt-ltb, ltb-true, cases_order, false≢true}
 use Rattle.std.proofs.lemmas.List.{length-map, get_or-map, take-map, drop-map, get_or_default}
 use Rattle.std.proofs.lemmas.List.FromFn.{length-range_with_len, get_or-range_with_len}
 use Rattle.std.proofs.lemmas.List.Sorted.{length_permutation, Contains-permutation, All-permutation}
 use Rattle.std.proofs.lemmas.List.Elements.{All-head, All-tail, All-take, All-drop}
-use Rattle.partition.specs.Growing.{
-  batch_before, goes_before, is_chosen, is_grown, is_in, is_next, ranks_before, touches,
-}
+use Rattle.partition.specs.Growing.{batch_before, goes_before, is_chosen, is_grown, is_in, is_next, ranks_before}
+use Rattle.partition.specs.Growing.{touches}
 use Rattle.partition.specs.Internal.Ranking.{IsRanking}
 
 -- what `list_all` of a range says of each number
@@ -26,7 +22,7 @@ list_all_of_range p a (suc n) zero e h =
 list_all_of_range p a (suc n) (suc k) e h =
     let same : a + suc k ≡ a + 1 + k = omega arith in
     ap p same ∙ list_all_of_range p (a + 1) n k (and_parts (p a) (list_all p (range_with_len (a + 1) n)) e).1
-        (omega arith)
+    (omega arith)
 
 list_all_of_range-from : (p : ℕ → Bool) (a n : ℕ) → ((k : ℕ) → k < n → p (a + k) ≡ true) →
     list_all p (range_with_len a n) ≡ true
@@ -34,7 +30,7 @@ list_all_of_range-from p a zero f = refl
 list_all_of_range-from p a (suc n) f =
     and_from (p a) (list_all p (range_with_len (a + 1) n)) (ap p (sym (add-zero a)) ∙ f 0 (omega arith))
     (list_all_of_range-from p (a + 1) n (λ k h. let same : a + 1 + k ≡ a + suc k = omega arith in ap p same ∙
-        f (suc k) (omega arith)))
+    f (suc k) (omega arith)))
 
 -- ---- what it means to be next
 
@@ -80,7 +76,7 @@ grown_from n key near size order e =
       next =
           λ place l. next_from n key near (take place order) (batch_before size order place) (slice_index order place)
           (ap (is_chosen n key near size order) (sym (zero-add place)) ∙
-              list_all_of_range (is_chosen n key near size order) 0 n place h.1 l);
+          list_all_of_range (is_chosen n key near size order) 0 n place h.1 l);
     }
 
 pub is_grown-from : (n : ℕ) (key : ℕ → ℕ) (near : ℕ → ℕ → Bool) (size : ℕ) (order : List ℕ) →
@@ -88,11 +84,11 @@ pub is_grown-from : (n : ℕ) (key : ℕ → ℕ) (near : ℕ → ℕ → Bool) 
 unfolding is_grown
 is_grown-from n key near size order s =
     and_from (length order == n) (list_all (is_chosen n key near size order) (range_with_len 0 n))
-        (eq-eqb (length order) n s.all)
+    (eq-eqb (length order) n s.all)
     (list_all_of_range-from (is_chosen n key near size order) 0 n (λ place l.
     ap (is_chosen n key near size order) (zero-add place)
     ∙ is_next-from n key near (take place order) (batch_before size order place) (slice_index order place)
-        (s.next place l)))
+    (s.next place l)))
 
 -- the ranks of a grown order are all below n
 pub All-of_grown : (n : ℕ) (key : ℕ → ℕ) (near : ℕ → ℕ → Bool) (size : ℕ) (order : List ℕ) →
@@ -118,18 +114,24 @@ renumbers keys order near_ranks near s near_is =
     let n : ℕ = length keys in
     let range : List ℕ = range_with_len 0 (length keys) in
     let len : length order ≡ length keys =
-        length_permutation (range_with_len 0 (length keys)) order s.all ∙ length-range_with_len 0 (length keys) in
+    length_permutation (range_with_len 0 (length keys)) order s.all ∙ length-range_with_len 0 (length keys) in
     let all : All (λ i. i < length keys) order =
-        All-permutation (λ i. i < length keys) (range_with_len 0 (length keys)) order s.all
-    (λ k d h. omega (arith, get_or-range_with_len 0 (length keys) k d
-        (omega (arith, length-range_with_len 0 (length keys))), length-range_with_len 0 (length keys))) in
+    All-permutation (λ i. i < length keys) (range_with_len 0 (length keys)) order s.all
+    (λ k d h. omega (
+      arith,
+      get_or-range_with_len 0 (length keys) k d
+          (omega (arith, length-range_with_len 0 (length keys))),
+      length-range_with_len 0 (length keys),
+    )) in
     record {
       below = λ r h. all r 0 (omega arith);
       ascends = λ r s' h k. s.ascends r s' h (omega arith);
       rank_of = λ i h.
-          let w = Contains-permutation (range_with_len 0 (length keys)) order i s.all
-          (i, omega (arith, length-range_with_len 0 (length keys)), get_or-range_with_len 0 (length keys) i i h ∙
-              zero-add i) in
+          let w = Contains-permutation (range_with_len 0 (length keys)) order i s.all (
+            i,
+            omega (arith, length-range_with_len 0 (length keys)),
+            get_or-range_with_len 0 (length keys) i i h ∙ zero-add i,
+          ) in
           (w.0, omega (arith, w.1), get_or_default order w.0 0 i w.1 ∙ w.2);
       near_is = near_is;
     }
@@ -204,20 +206,20 @@ goes_before_renumbered : (n : ℕ) (key : ℕ → ℕ) (near_ranks near : ℕ �
 goes_before_renumbered n key near_ranks near order t batch hb r s hr hs e =
     let o : ℕ → ℕ = slice_index order in
     let before : ranks_before (λ _. 0) r s ≡ true →
-        ranks_before key (slice_index order r) (slice_index order s) ≡ true =
+    ranks_before key (slice_index order r) (slice_index order s) ≡ true =
     λ h. t.ascends r s (ltb-true r s h) hs in
     let P : Bool → Type 0 =
-        λ b. (if b then touches near_ranks batch r && ranks_before key (slice_index order r)
-        (slice_index order s) else touches near_ranks batch r || ranks_before key (slice_index order r)
-        (slice_index order s)) ≡ true in
+    λ b. (if b then touches near_ranks batch r && ranks_before key (slice_index order r)
+    (slice_index order s) else touches near_ranks batch r || ranks_before key (slice_index order r)
+    (slice_index order s)) ≡ true in
     let Q : Bool → Type 0 =
-        λ b. (if touches near (map (slice_index order) batch) (slice_index order s) then b && ranks_before key
-        (slice_index order r) (slice_index order s) else b || ranks_before key (slice_index order r)
-        (slice_index order s)) ≡ true in
+    λ b. (if touches near (map (slice_index order) batch) (slice_index order s) then b && ranks_before key
+    (slice_index order r) (slice_index order s) else b || ranks_before key (slice_index order r)
+    (slice_index order s)) ≡ true in
     subst Q (sym (touches_renumbered n key near_ranks near order t batch hb r hr))
     (subst P (sym (touches_renumbered n key near_ranks near order t batch hb s hs))
     (weaker (touches near_ranks batch s) (touches near_ranks batch r) (ranks_before (λ _. 0) r s)
-        (ranks_before key (slice_index order r) (slice_index order s)) before e))
+    (ranks_before key (slice_index order r) (slice_index order s)) before e))
 
 first_renumbered : (n : ℕ) (key : ℕ → ℕ) (near_ranks near : ℕ → ℕ → Bool) (order : List ℕ) →
     Renumbers n key near_ranks near order →
@@ -247,10 +249,10 @@ next_renumbered n key near_ranks near order t placed batch hp hb r s =
       first = λ j h.
           let w = t.rank_of j h in
           let P : ℕ → Type 0 =
-              λ i. (is_in (map (slice_index order) placed) i || slice_index order r == i || goes_before key near
-              (map (slice_index order) batch) (slice_index order r) i) ≡ true in
+          λ i. (is_in (map (slice_index order) placed) i || slice_index order r == i || goes_before key near
+          (map (slice_index order) batch) (slice_index order r) i) ≡ true in
           subst P w.2 (first_renumbered n key near_ranks near order t placed batch hp hb r w.0 s.below w.1
-              (s.first w.0 w.1));
+          (s.first w.0 w.1));
     }
 
 pub grown_renumbered : (n : ℕ) (key : ℕ → ℕ) (near_ranks near : ℕ → ℕ → Bool) (order : List ℕ) →
@@ -265,25 +267,25 @@ grown_renumbered n key near_ranks near order t size ranks e =
       next = λ place h.
           let batch_start : ℕ = place / size * size in
           let placed : take place (map (slice_index order) ranks) ≡ map (slice_index order) (take place ranks) =
-              take-map (slice_index order) place ranks in
+          take-map (slice_index order) place ranks in
           let batch : batch_before size (map (slice_index order) ranks) place ≡ map (slice_index order)
-              (batch_before size ranks place) =
+          (batch_before size ranks place) =
           ap (drop (place / size * size)) placed ∙
-              drop-map (slice_index order) (place / size * size) (take place ranks) in
+          drop-map (slice_index order) (place / size * size) (take place ranks) in
           let item : slice_index (map (slice_index order) ranks) place ≡ slice_index order (slice_index ranks place) =
           get_or-map (slice_index order) ranks place 0 0 (omega (arith, g.all)) in
           let P : List ℕ → Type 0 =
-              λ xs. IsNext n key near xs (batch_before size (map (slice_index order) ranks) place)
-              (slice_index (map (slice_index order) ranks) place) in
+          λ xs. IsNext n key near xs (batch_before size (map (slice_index order) ranks) place)
+          (slice_index (map (slice_index order) ranks) place) in
           let Q : List ℕ → Type 0 =
-              λ xs. IsNext n key near (map (slice_index order) (take place ranks)) xs
-              (slice_index (map (slice_index order) ranks) place) in
+          λ xs. IsNext n key near (map (slice_index order) (take place ranks)) xs
+          (slice_index (map (slice_index order) ranks) place) in
           let R : ℕ → Type 0 =
-              λ i. IsNext n key near (map (slice_index order) (take place ranks))
-              (map (slice_index order) (batch_before size ranks place)) i in
+          λ i. IsNext n key near (map (slice_index order) (take place ranks))
+          (map (slice_index order) (batch_before size ranks place)) i in
           subst P (sym placed) (subst Q (sym batch) (subst R (sym item)
           (next_renumbered n key near_ranks near order t (take place ranks) (batch_before size ranks place)
           (All-take (λ r. r < n) place ranks all) (All-drop (λ r. r < n) (place / size * size) (take place ranks)
-              (All-take (λ r. r < n) place ranks all))
+          (All-take (λ r. r < n) place ranks all))
           (slice_index ranks place) (g.next place h))));
     })

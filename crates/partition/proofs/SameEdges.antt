@@ -1,11 +1,9 @@
 -- Edge uses on one edge, and the edge between two points.
-use Rattle.std.proofs.Common.{
-  Some, ◌≡◌, ℕ, Bool, true, false, ◌&&◌, ◌||◌, if◌then◌else◌, ℤ, refl, sym, ap, ◌∙◌, subst, ◌⊎◌, inl, inr,
-}
+use Rattle.std.proofs.Common.{Some, ◌≡◌, ℕ, Bool, true, false, ◌&&◌, ◌||◌, if◌then◌else◌, ℤ, refl, sym, ap, ◌∙◌, subst}
+use Rattle.std.proofs.Common.{◌⊎◌, inl, inr}
 use Rattle.std.specs.Cmp.{both_ways, IsTotalOrder}
-use Rattle.std.specs.Ordering.{
-  int_eq, int_cmp, is_le, is_eq, ordering_then, ordering_reverse, partial_ordering_then, is_some_and,
-}
+use Rattle.std.specs.Ordering.{int_eq, int_cmp, is_le, is_eq, ordering_then, ordering_reverse, partial_ordering_then}
+use Rattle.std.specs.Ordering.{is_some_and}
 use Rattle.std.specs.declared.cmp.Ordering.{Ordering}
 use Rattle.std.specs.declared.cmp.Ordering.TheVariants.{Less, Equal, Greater}
 use Rattle.std.proofs.lemmas.Bool.{and_parts, and_from, or_cases, or_left, or_right, false≢true}
@@ -38,7 +36,7 @@ points_from_same p q e =
     let xy = and_parts (int_eq p.x q.x && int_eq p.y q.y) (int_eq p.z q.z) e in
     let xs = and_parts (int_eq p.x q.x) (int_eq p.y q.y) xy.0 in
     same_points p q ((Decides-int_eq p.x q.x).0 xs.0) ((Decides-int_eq p.y q.y).0 xs.1)
-        ((Decides-int_eq p.z q.z).0 xy.1)
+    ((Decides-int_eq p.z q.z).0 xy.1)
 
 pub same_point-itself : (p : Pt) → same_point p p ≡ true
 unfolding same_point

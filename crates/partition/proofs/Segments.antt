@@ -1,8 +1,6 @@
 -- The places from a to e that pass a test, and e behind them, cut the places into segments.
-use Rattle.std.proofs.Common.{
-  ◌≡◌, ℕ, zero, suc, ◌+◌, ◌-◌, ◌<◌, ◌≤◌, Bool, true, false, cond, List, [], ◌∷◌, ◌++◌, length, get_or, filter, refl,
-  sym, ap, ◌∙◌, arith, ◌⊎◌, inl, inr, subst,
-}
+use Rattle.std.proofs.Common.{◌≡◌, ℕ, zero, suc, ◌+◌, ◌-◌, ◌<◌, ◌≤◌, Bool, true, false, cond, List, [], ◌∷◌, ◌++◌}
+use Rattle.std.proofs.Common.{length, get_or, filter, refl, sym, ap, ◌∙◌, arith, ◌⊎◌, inl, inr, subst}
 use Rattle.std.specs.List.{range_with_len}
 use Rattle.std.proofs.lemmas.Bool.{cases_lt, cases_Bool}
 
@@ -92,16 +90,16 @@ segments_more : (passes : ℕ → Bool) (a n : ℕ) →
     (passes a ≡ true) ⊎ (passes a ≡ false) → AreSegments passes a (a + suc n) (segments passes a (suc n))
 segments_more passes a n rest (inl h) =
     let P : Bool → Type 0 =
-        λ b. AreSegments passes a (a + suc n) (cond b (a ∷ filter passes (range_with_len (a + 1) n))
-        (filter passes (range_with_len (a + 1) n)) ++ (a + suc n) ∷ []) in
+    λ b. AreSegments passes a (a + suc n) (cond b (a ∷ filter passes (range_with_len (a + 1) n))
+    (filter passes (range_with_len (a + 1) n)) ++ (a + suc n) ∷ []) in
     subst P (sym h) (AreSegments-cons passes a (a + suc n)
-        (filter passes (range_with_len (a + 1) n) ++ (a + suc n) ∷ []) h rest)
+    (filter passes (range_with_len (a + 1) n) ++ (a + suc n) ∷ []) h rest)
 segments_more passes a n rest (inr h) =
     let P : Bool → Type 0 =
-        λ b. AreSegments passes a (a + suc n) (cond b (a ∷ filter passes (range_with_len (a + 1) n))
-        (filter passes (range_with_len (a + 1) n)) ++ (a + suc n) ∷ []) in
+    λ b. AreSegments passes a (a + suc n) (cond b (a ∷ filter passes (range_with_len (a + 1) n))
+    (filter passes (range_with_len (a + 1) n)) ++ (a + suc n) ∷ []) in
     subst P (sym h) (AreSegments-skip passes a (a + suc n)
-        (filter passes (range_with_len (a + 1) n) ++ (a + suc n) ∷ []) h rest)
+    (filter passes (range_with_len (a + 1) n) ++ (a + suc n) ∷ []) h rest)
 
 pub segments_of : (passes : ℕ → Bool) (a n : ℕ) → AreSegments passes a (a + n) (segments passes a n)
 segments_of passes a zero = AreSegments-none passes a

@@ -1,7 +1,6 @@
 -- Shared edges in a flat list: how many there are, and where each is.
-use Rattle.std.proofs.Common.{
-  ◌≡◌, ◌<◌, ◌≤◌, ◌+◌, ◌-◌, ℕ, zero, suc, List, [], length, get_or, refl, sym, ap, ◌∙◌, arith,
-}
+use Rattle.std.proofs.Common.{◌≡◌, ◌<◌, ◌≤◌, ◌+◌, ◌-◌, ℕ, zero, suc, List, [], length, get_or, refl, sym, ap, ◌∙◌}
+use Rattle.std.proofs.Common.{arith}
 use Rattle.std.specs.List.{range_with_len}
 use Rattle.std.proofs.lemmas.List.{length-map, get_or-map, get_or_read}
 use Rattle.partition.specs.Internal.SharedEdges.{AreStarts, shared_edge_at, shared_edges_of}
@@ -26,7 +25,7 @@ pub get_or-shared_edges_of : (items starts : List ℕ) (r : ℕ) → r + 1 < len
 get_or-shared_edges_of items starts r h =
     let within : r < length starts - 1 = omega arith in
     get_or-map (shared_edge_at items starts) (range_with_len 0 (length starts - 1)) r 0 []
-        (omega (arith, length-range 0 (length starts - 1)))
+    (omega (arith, length-range 0 (length starts - 1)))
     ∙ ap (shared_edge_at items starts) (get_or-range 0 (length starts - 1) r 0 within ∙ omega arith)
 
 -- a shared edge lies within the items

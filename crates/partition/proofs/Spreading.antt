@@ -1,7 +1,6 @@
 -- The bits of one number spread to every third place, and how they add up.
-use Rattle.std.proofs.Common.{
-  ◌≡◌, ℕ, zero, suc, ◌+◌, ◌*◌, ◌/◌, ◌%◌, ◌^◌, ◌<◌, arith, refl, sym, ap, ◌∙◌, map, slice_index,
-}
+use Rattle.std.proofs.Common.{◌≡◌, ℕ, zero, suc, ◌+◌, ◌*◌, ◌/◌, ◌%◌, ◌^◌, ◌<◌, arith, refl, sym, ap, ◌∙◌, map}
+use Rattle.std.proofs.Common.{slice_index}
 use Rattle.std.specs.List.{range_with_len}
 use Rattle.std.proofs.lemmas.Nat.{shr-shr, mod-pow-add}
 use Rattle.std.proofs.lemmas.List.FromFn.{get_or-map-range_with_len}
@@ -36,8 +35,12 @@ spread_bits_of_two (suc k) bits n =
     let times_8 : 8 ^ suc k ≡ 8 * 8 ^ k = omega arith in
     let g : 8 ^ suc k * spread_bits bits (n / 2 / 2 ^ k) ≡ 8 * (8 ^ k * spread_bits bits (n / 2 / 2 ^ k)) =
     ap (λ m. m * spread_bits bits (n / 2 / 2 ^ k)) times_8 ∙ mul_assoc 8 (8 ^ k) (spread_bits bits (n / 2 / 2 ^ k)) in
-    ap (λ m. spread_bits m n) e ∙ omega (arith, spread_bits_of_two k bits (n / 2),
-        ap (λ m. 8 ^ suc k * spread_bits bits m) f, g)
+    ap (λ m. spread_bits m n) e ∙ omega (
+      arith,
+      spread_bits_of_two k bits (n / 2),
+      ap (λ m. 8 ^ suc k * spread_bits bits m) f,
+      g,
+    )
 
 -- bits above the lowest k don't count
 pub spread_bits_of_low : (k n : ℕ) → spread_bits k (n % 2 ^ k) ≡ spread_bits k n
@@ -54,8 +57,13 @@ pub spread_bits_of_sevens : (n : ℕ) → n < 2 ^ 21 →
     spread_bits 21 n ≡ spread_bits 7 (n % 128) + 2097152 * spread_bits 7 (n / 128 % 128) + 4398046511104 * spread_bits 7
     (n / 128 / 128)
 spread_bits_of_sevens n h =
-    omega (arith, spread_bits_of_two 7 14 n, spread_bits_of_two 7 7 (n / 128), spread_bits_of_low 7 n,
-        spread_bits_of_low 7 (n / 128))
+    omega (
+      arith,
+      spread_bits_of_two 7 14 n,
+      spread_bits_of_two 7 7 (n / 128),
+      spread_bits_of_low 7 n,
+      spread_bits_of_low 7 (n / 128),
+    )
 
 -- the table has the spread bits of each number below 128
 pub table_of_spread_bits : SPREAD ≡ map (spread_bits 7) (range_with_len 0 128)

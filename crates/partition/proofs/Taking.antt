@@ -1,8 +1,6 @@
 -- The beginning, what stays when the next item is taken from the frontier, and the end.
-use Rattle.std.proofs.Common.{
-  ◌≡◌, ◌<◌, ◌+◌, inl, inr, ℕ, zero, suc, Bool, true, false, cond, eqb, List, [], length, get_or, replicate, count_by,
-  All, Contains, refl, arith,
-}
+use Rattle.std.proofs.Common.{◌≡◌, ◌<◌, ◌+◌, inl, inr, ℕ, zero, suc, Bool, true, false, cond, eqb, List, [], length}
+use Rattle.std.proofs.Common.{get_or, replicate, count_by, All, Contains, refl, arith}
 use Rattle.std.specs.List.{list_all, range_with_len}
 use Rattle.std.proofs.lemmas.Bool.{and_from, eq-eqb}
 use Rattle.std.proofs.lemmas.List.{get_or-replicate, length-replicate}
@@ -20,7 +18,7 @@ pub count_by-none : (n : ℕ) → count_by (λ b. b) (replicate n false) ≡ 0
 count_by-none zero = refl
 count_by-none (suc n) =
     let first : count_by (λ b. b) (replicate (suc n) false) ≡ 0 + count_by (λ b. b) (replicate n false) =
-        sum_by-cons (λ b. cond b 1 0) false (replicate n false) in
+    sum_by-cons (λ b. cond b 1 0) false (replicate n false) in
     omega (arith, first, count_by-none n)
 
 -- nothing is placed
@@ -43,9 +41,9 @@ pub queued_below : (shared : List (List ℕ)) (size : ℕ) (placed : List Bool) 
     All (λ item. item < length placed) queue
 queued_below shared size placed order least cursors queue sound grows k d h =
     let is : Touches shared (batch_of size order) (get_or queue k d) =
-        grows.queued (get_or queue k d) (Contains-get_or queue k d h) in
+    grows.queued (get_or queue k d) (Contains-get_or queue k d h) in
     All-contains (λ item. item < length placed) (get_or shared is.edge []) (get_or queue k d)
-        (sound is.edge [] is.with_item.0).below is.with_item.1
+    (sound is.edge [] is.with_item.0).below is.with_item.1
 
 -- while the order isn't whole, an item is left
 pub left_of_order : (shared : List (List ℕ)) (size : ℕ) (placed : List Bool) (order : List ℕ) (least : ℕ)
@@ -77,7 +75,7 @@ pub ready-taken : (shared : List (List ℕ)) (batch : List ℕ) (placed : List B
     HasLeastOf (get_or shared edge []) placed queue'
 ready-taken shared batch placed item queue queue' ready keeps edge member in_batch holds apart other among left =
     let has : HasLesser (get_or shared edge []) placed queue other =
-        ready edge member in_batch holds other among left in
+    ready edge member in_batch holds other among left in
     record {
       lesser = has.lesser;
       queued = elim (keeps has.lesser has.queued has.left) [
@@ -95,5 +93,5 @@ pub is_grown-from : (n : ℕ) (key : ℕ → ℕ) (near : ℕ → ℕ → Bool) 
 unfolding is_grown
 is_grown-from n key near size order whole chosen =
     and_from (eqb (length order) n) (list_all (is_chosen n key near size order) (range_with_len 0 n))
-        (eq-eqb (length order) n whole)
+    (eq-eqb (length order) n whole)
     (list_all-from (is_chosen n key near size order) 0 n (λ place above below. chosen place (omega arith)))

@@ -1,7 +1,6 @@
 -- The walk along an item's chain of edges: of which shared edges the least item is queued so far.
-use Rattle.std.proofs.Common.{
-  ◌≡◌, ◌<◌, ◌≤◌, inl, inr, ℕ, suc, List, Bool, [], Option, Some, None, length, get_or, Contains, sym, ap, ◌∙◌, arith,
-}
+use Rattle.std.proofs.Common.{◌≡◌, ◌<◌, ◌≤◌, inl, inr, ℕ, suc, List, Bool, [], Option, Some, None, length, get_or}
+use Rattle.std.proofs.Common.{Contains, sym, ap, ◌∙◌, arith}
 use Rattle.std.proofs.lemmas.Bool.{cases_lt}
 use Rattle.std.proofs.lemmas.List.{get_or_default}
 use Rattle.partition.specs.declared.edges_of_item.ItemEdge.{ItemEdge}
@@ -29,8 +28,13 @@ pub HasLeastOf-keeps : (edge : List ℕ) (placed : List Bool) (old new : List �
     HasLeastOf edge placed old → HasLeastOf edge placed new
 HasLeastOf-keeps edge placed old new keeps entered item is left =
     let has : HasLesser edge placed old item = entered item is left in
-    record { lesser = has.lesser; queued = keeps has.lesser has.queued; among = has.among; left = has.left; le =
-        has.le }
+    record {
+      lesser = has.lesser;
+      queued = keeps has.lesser has.queued;
+      among = has.among;
+      left = has.left;
+      le = has.le;
+    }
 
 -- at the item's last entry nothing is queued yet
 pub IsWalk-starts : (shared : List (List ℕ)) (count : ℕ) (edges_of_item : EdgesOfItem) (item : ℕ) (placed : List Bool)
@@ -78,7 +82,7 @@ IsWalk-more shared count edges_of_item item placed old new place item_edge walk 
               let same : p ≡ place = omega arith in
               let item_edge_is : item_edge ≡ get_or edges_of_item.item_edges.items p d =
               is ∙ get_or_default edges_of_item.item_edges.items place item_edge d (omega (arith, walk.holds.whole)) ∙
-                  ap (λ q. get_or edges_of_item.item_edges.items q d) (sym same) in
+              ap (λ q. get_or edges_of_item.item_edges.items q d) (sym same) in
               rw (← item_edge_is) here
         ]
         | inr after ↦ HasLeastOf-keeps (get_or shared (get_or edges_of_item.item_edges.items p d).edge []) placed old
@@ -94,7 +98,7 @@ pub left_of-smaller : (shared : List (List ℕ)) (count : ℕ) (edges_of_item : 
 left_of-smaller shared count edges_of_item item placed queue place item_edge walk is =
     let below : place < length walk.holds.items = omega (arith, walk.before.0, walk.within) in
     by_case item_edge.previous (get_or walk.holds.items place 0)
-        (rw (← is) at (walk.holds.previous place item_edge below))
+    (rw (← is) at (walk.holds.previous place item_edge below))
   where
     by_case : (o : Option ℕ) (item : ℕ) → IsLastBefore walk.holds.items item place o → left_of o < suc place
     by_case None item last = omega arith
@@ -107,7 +111,7 @@ pub IsWalk-ends : (shared : List (List ℕ)) (count : ℕ) (edges_of_item : Edge
 IsWalk-ends shared count edges_of_item item placed queue walk edge holds =
     let among : Contains (get_or shared edge []) item = holds.1 in
     let at_edge : get_or (get_or shared edge []) among.0 0 ≡ item =
-        get_or_default (get_or shared edge []) among.0 0 item among.1 ∙ among.2 in
+    get_or_default (get_or shared edge []) among.0 0 item among.1 ∙ among.2 in
     let item_edges = walk.holds.complete edge among.0 holds.0 among.1 (inl holds.0) in
     let d : ItemEdge = record { edge = edge; previous = None } in
     elim (cases_lt item_edges.0 walk.end) [

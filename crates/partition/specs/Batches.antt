@@ -1,7 +1,6 @@
 -- The batches of items that grow.
-use Rattle.std.specs.Prelude.{
-  ◌≡◌, ◌+◌, ◌-◌, ◌/◌, ◌<◌, ◌≤◌, ℕ, true, List, [], length, map, slice_index, slice_index_or, All,
-}
+use Rattle.std.specs.Prelude.{◌≡◌, ◌+◌, ◌-◌, ◌/◌, ◌<◌, ◌≤◌, ℕ, true, List, [], length, map, slice_index, slice_index_or}
+use Rattle.std.specs.Prelude.{All}
 use Rattle.std.specs.List.{concat}
 use Rattle.geom_core.specs.declared.points.Pt.{Pt}
 use Rattle.partition.specs.Growing.{is_grown, batches_of}

@@ -3,9 +3,8 @@
 -- there is none, it is the least of all that aren't placed.
 --
 -- The items are the numbers below n. `key` gives an item's key, and `near` tells neighbours.
-use Rattle.std.specs.Prelude.{
-  ℕ, ◌+◌, ◌-◌, ◌*◌, ◌/◌, Bool, not, ◌&&◌, ◌||◌, ◌==◌, nat_lt, if◌then◌else◌, List, length, take, drop, map, slice_index,
-}
+use Rattle.std.specs.Prelude.{ℕ, ◌+◌, ◌-◌, ◌*◌, ◌/◌, Bool, not, ◌&&◌, ◌||◌, ◌==◌, nat_lt, if◌then◌else◌, List, length}
+use Rattle.std.specs.Prelude.{take, drop, map, slice_index}
 use Rattle.std.specs.List.{list_any, list_all, range_with_len}
 use Rattle.std.specs.Fork.{slice_chunk}
 

@@ -1,8 +1,6 @@
 -- What the pages of an allowed entry are: resident, or not, or not pinned.
-use Rattle.std.proofs.Common.{
-  ◌≡◌, ℕ, ◌==◌, ◌<◌, List, [], ◌∷◌, Bool, true, false, not, ◌&&◌, ⊎_elim, Option, Some, None, length, get_or, refl,
-  arith,
-}
+use Rattle.std.proofs.Common.{◌≡◌, ℕ, ◌==◌, ◌<◌, List, [], ◌∷◌, Bool, true, false, not, ◌&&◌, ⊎_elim, Option, Some}
+use Rattle.std.proofs.Common.{None, length, get_or, refl, arith}
 use Rattle.std.specs.List.{list_all}
 use Rattle.std.specs.Option.{IfSome, is_some}
 use Rattle.journal.specs.declared.entries.Entry.{Entry}

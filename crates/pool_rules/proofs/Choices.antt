@@ -1,8 +1,6 @@
 -- What an allowed Take tells of its page and its victim.
-use Rattle.std.proofs.Common.{
-  ◌≡◌, ℕ, ◌<◌, List, [], ◌∷◌, Bool, true, false, cond, nat_lt, ◌==◌, ◌⊎◌, inl, inr, ⊎_elim, Option, Some, None, filter,
-  fold, refl,
-}
+use Rattle.std.proofs.Common.{◌≡◌, ℕ, ◌<◌, List, [], ◌∷◌, Bool, true, false, cond, nat_lt, ◌==◌, ◌⊎◌, inl, inr, ⊎_elim}
+use Rattle.std.proofs.Common.{Option, Some, None, filter, fold, refl}
 use Rattle.std.specs.Option.{option_eq}
 use Rattle.std.specs.Prelude.{nat_eq}
 use Rattle.std.proofs.lemmas.Bool.Decides.{Decides-ltb}
@@ -10,10 +8,8 @@ use Rattle.pool_rules.specs.declared.want.Want.{Want}
 use Rattle.journal.specs.declared.layouts.Layout.{Layout}
 use Rattle.pool_rules.specs.declared.next_load.Next.TheVariants.{Take}
 use Rattle.journal.specs.Layout.{page_numbers}
-use Rattle.pool_rules.specs.Next.{
-  is_want_for, can_take, is_takeable, first_takeable, first_loading, next_with, next_at, busy_with, next_without,
-  next_of, next_in, is_take,
-}
+use Rattle.pool_rules.specs.Next.{is_want_for, can_take, is_takeable, first_takeable, first_loading, next_with, next_at}
+use Rattle.pool_rules.specs.Next.{busy_with, next_without, next_of, next_in, is_take}
 use Rattle.pool_rules.specs.State.{State, held_count}
 use Rattle.pool_rules.specs.Victim.{is_evictable, last_used_of, less_recently_used, victim_for}
 use Rattle.pool_rules.proofs.Tests.{and-both, same-eqb, find-passes}

@@ -2,13 +2,11 @@
 use Rattle.std.proofs.Common.{◌≡◌, true, false, List, [], ◌∷◌, ◌++◌, map, replicate, Some, None, refl}
 use Rattle.journal.specs.declared.entries.Spoilt.TheVariants.{Short}
 use Rattle.journal.specs.declared.entries.What.{What}
-use Rattle.journal.specs.declared.entries.What.TheVariants.{
-  Pin, Settle, Ask, Narrow, Unpin, Take, Install, Fail, Spoil, Starve, Full, Stop,
-}
+use Rattle.journal.specs.declared.entries.What.TheVariants.{Pin, Settle, Ask, Narrow, Unpin, Take, Install, Fail, Spoil}
+use Rattle.journal.specs.declared.entries.What.TheVariants.{Starve, Full, Stop}
 use Rattle.pool_rules.proofs.Examples.{digest, entry}
-use Rattle.pool_rules.specs.Events.{
-  changes_frame, frame_of, has_failed, has_full, has_stop, is_full_of, is_stop, page_ended, page_failed, replaces_wants,
-}
+use Rattle.pool_rules.specs.Events.{changes_frame, frame_of, has_failed, has_full, has_stop, is_full_of, is_stop}
+use Rattle.pool_rules.specs.Events.{page_ended, page_failed, replaces_wants}
 use Rattle.pool_rules.specs.Numbers.{holds, is_among}
 
 -- One event of each kind: those of a frame are of frame 3, and those of a page of page 2.

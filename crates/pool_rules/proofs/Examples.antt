@@ -1,15 +1,13 @@
 -- Worked journals, computed: how the pool stands after them, what comes next and which page is evicted.
-use Rattle.std.proofs.Common.{
-  ◌≡◌, ℕ, zero, suc, inl, inr, arith, Bool, true, false, List, [], ◌∷◌, ◌++◌, map, Some, None, Option, refl,
-}
+use Rattle.std.proofs.Common.{◌≡◌, ℕ, zero, suc, inl, inr, arith, Bool, true, false, List, [], ◌∷◌, ◌++◌, map, Some}
+use Rattle.std.proofs.Common.{None, Option, refl}
 use Rattle.std.specs.Prelude.{replicate}
 use Rattle.geom_core.specs.declared.digests.Digest32.{Digest32}
 use Rattle.journal.specs.declared.entries.Entry.{Entry}
 use Rattle.journal.specs.declared.entries.Spoilt.TheVariants.{Short}
 use Rattle.journal.specs.declared.entries.What.{What}
-use Rattle.journal.specs.declared.entries.What.TheVariants.{
-  Pin, Settle, Ask, Narrow, Unpin, Take, Install, Fail, Spoil, Starve, Full, Stop,
-}
+use Rattle.journal.specs.declared.entries.What.TheVariants.{Pin, Settle, Ask, Narrow, Unpin, Take, Install, Fail, Spoil}
+use Rattle.journal.specs.declared.entries.What.TheVariants.{Starve, Full, Stop}
 use Rattle.journal.specs.declared.layouts.Layout.{Layout}
 use Rattle.pool_rules.specs.declared.next_load.Next.TheVariants as Next
 use Rattle.pool_rules.specs.declared.want.Want.{Want}
@@ -50,8 +48,7 @@ crowded = record {
   pages = 6;
   roots = 1;
   slots = 5;
-  uppers =
-      [] ∷ (0 ∷ []) ∷ (0 ∷ 1 ∷ []) ∷ (0 ∷ []) ∷ (0 ∷ []) ∷ (0 ∷ []) ∷ [];
+  uppers = [] ∷ (0 ∷ []) ∷ (0 ∷ 1 ∷ []) ∷ (0 ∷ []) ∷ (0 ∷ []) ∷ (0 ∷ []) ∷ [];
 }
 
 -- the load of a page by maker 0 for frame 0

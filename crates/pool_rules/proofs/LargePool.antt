@@ -1,31 +1,24 @@
 -- Where the slots are at least the pages, a page that can be taken has a free slot.
-use Rattle.std.proofs.Common.{
-  ◌≡◌, ℕ, zero, suc, ◌+◌, ◌<◌, ◌≤◌, nat_lt, ◌==◌, List, [], ◌∷◌, Bool, true, false, not, cond, ◌&&◌, Option, Some, None,
-  is_some, find, get_or, length, refl, ap, arith,
-}
+use Rattle.std.proofs.Common.{◌≡◌, ℕ, zero, suc, ◌+◌, ◌<◌, ◌≤◌, nat_lt, ◌==◌, List, [], ◌∷◌, Bool, true, false, not}
+use Rattle.std.proofs.Common.{cond, ◌&&◌, Option, Some, None, is_some, find, get_or, length, refl, ap, arith}
 use Rattle.std.proofs.lemmas.Bool.Decides.{Decides-ltb}
 use Rattle.std.proofs.lemmas.List.Elements.{All-nil, All-head, All-tail, All-append, All-filter, All-map}
 use Rattle.std.proofs.lemmas.List.Sums.{sum_by-cons}
 use Rattle.std.specs.List.{All, count_by, list_all}
 use Rattle.journal.specs.declared.entries.Entry.{Entry}
 use Rattle.journal.specs.declared.entries.What.{What}
-use Rattle.journal.specs.declared.entries.What.TheVariants.{
-  Pin, Settle, Ask, Narrow, Unpin, Take, Install, Fail, Spoil, Starve, Full, Stop,
-}
+use Rattle.journal.specs.declared.entries.What.TheVariants.{Pin, Settle, Ask, Narrow, Unpin, Take, Install, Fail, Spoil}
+use Rattle.journal.specs.declared.entries.What.TheVariants.{Starve, Full, Stop}
 use Rattle.journal.specs.declared.layouts.Layout.{Layout}
 use Rattle.journal.specs.Layout.{InBounds, all_below, uppers_of}
 use Rattle.pool_rules.specs.declared.next_load.Next.TheVariants as Next
 use Rattle.pool_rules.specs.declared.want.Want.{Want}
-use Rattle.pool_rules.specs.Next.{
-  is_want_for, can_take, is_takeable, first_takeable, first_loading, next_with, next_at, busy_with, next_without,
-  next_of, next_after, is_full,
-}
+use Rattle.pool_rules.specs.Next.{is_want_for, can_take, is_takeable, first_takeable, first_loading, next_with, next_at}
+use Rattle.pool_rules.specs.Next.{busy_with, next_without, next_of, next_after, is_full}
 use Rattle.pool_rules.specs.Rules.{allows, IsLegal}
 use Rattle.pool_rules.specs.Sound.{IsSound}
-use Rattle.pool_rules.specs.State.{
-  State, is_resident, is_loading, is_held, held_count, is_live, wants_after, wants_of, wants_of_others, wants_without,
-  state_of,
-}
+use Rattle.pool_rules.specs.State.{State, is_resident, is_loading, is_held, held_count, is_live, wants_after, wants_of}
+use Rattle.pool_rules.specs.State.{wants_of_others, wants_without, state_of}
 use Rattle.pool_rules.specs.Victim.{victim_for}
 use Rattle.pool_rules.proofs.Arms.{settle-parts, ask-parts}
 use Rattle.pool_rules.proofs.LegalJournals.{state_of-push, legal-keeps}

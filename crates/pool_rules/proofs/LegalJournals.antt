@@ -1,8 +1,6 @@
 -- A journal with one entry more: its state, and that it is legal.
-use Rattle.std.proofs.Common.{
-  ◌≡◌, ℕ, ◌+◌, List, [], ◌∷◌, ◌++◌, Bool, true, false, Option, None, Some, length, refl, ap, arith, append_assoc,
-  append-nil, fold,
-}
+use Rattle.std.proofs.Common.{◌≡◌, ℕ, ◌+◌, List, [], ◌∷◌, ◌++◌, Bool, true, false, Option, None, Some, length, refl, ap}
+use Rattle.std.proofs.Common.{arith, append_assoc, append-nil, fold}
 use Rattle.std.proofs.lemmas.List.Sums.{fold_push}
 use Rattle.journal.specs.declared.entries.Entry.{Entry}
 use Rattle.journal.specs.declared.layouts.Layout.{Layout}

@@ -1,8 +1,7 @@
 -- A frame that has settled, is left alone, and is told that nothing is left to take.
-use Rattle.std.proofs.Common.{
-  ◌≡◌, ℕ, zero, suc, ◌+◌, ◌-◌, ◌==◌, ◌<◌, ◌≤◌, nat_lt, List, [], ◌∷◌, ◌++◌, Bool, true, false, not, cond, ◌&&◌, ◌||◌,
-  ⊎_elim, Option, Some, None, is_some, get_or, take, drop, length, refl, ap, ◌∙◌, arith, append_assoc,
-}
+use Rattle.std.proofs.Common.{◌≡◌, ℕ, zero, suc, ◌+◌, ◌-◌, ◌==◌, ◌<◌, ◌≤◌, nat_lt, List, [], ◌∷◌, ◌++◌, Bool, true}
+use Rattle.std.proofs.Common.{false, not, cond, ◌&&◌, ◌||◌, ⊎_elim, Option, Some, None, is_some, get_or, take, drop}
+use Rattle.std.proofs.Common.{length, refl, ap, ◌∙◌, arith, append_assoc}
 use Rattle.std.proofs.lemmas.Bool.Decides.{Decides-ltb}
 use Rattle.std.proofs.lemmas.List.Elements.{All-head, All-tail}
 use Rattle.std.proofs.Math.Seq.{take-append_seam, drop-append_seam}
@@ -16,15 +15,12 @@ use Rattle.journal.specs.Layout.{InBounds, all_below, uppers_of, is_upper}
 use Rattle.pool_rules.specs.declared.next_load.Next.{Next}
 use Rattle.pool_rules.specs.declared.want.Want.{Want}
 use Rattle.pool_rules.specs.Events.{has_failed, has_full}
-use Rattle.pool_rules.specs.Next.{
-  can_take, is_takeable, first_takeable, is_busy, first_loading, next_with, next_at, busy_with, next_of, next_after,
-}
+use Rattle.pool_rules.specs.Next.{can_take, is_takeable, first_takeable, is_busy, first_loading, next_with, next_at}
+use Rattle.pool_rules.specs.Next.{busy_with, next_of, next_after}
 use Rattle.pool_rules.specs.Numbers.{is_among}
 use Rattle.pool_rules.specs.Rules.{pins, is_allowed, first_refused_after, IsLegal}
-use Rattle.pool_rules.specs.Settled.{
-  HasSettled, LastSettle, is_answered, IsSettled, settle_before, last_settle, is_left_alone, lists_uppers, needs_within,
-  needs, has_failed_need,
-}
+use Rattle.pool_rules.specs.Settled.{HasSettled, LastSettle, is_answered, IsSettled, settle_before, last_settle}
+use Rattle.pool_rules.specs.Settled.{is_left_alone, lists_uppers, needs_within, needs, has_failed_need}
 use Rattle.pool_rules.specs.Sound.{IsSound}
 use Rattle.pool_rules.specs.State.{State, is_resident, is_loading, held_count, waits_for, state_of}
 use Rattle.pool_rules.specs.Victim.{victim_for}
@@ -32,10 +28,8 @@ use Rattle.pool_rules.proofs.Arms.{settle-parts}
 use Rattle.pool_rules.proofs.LegalJournals.{state_of-push, refused_or-none, legal-split}
 use Rattle.pool_rules.proofs.Settled.{is_wait, wait-page, IsWaiting, IsWaiting-settled, waiting-through}
 use Rattle.pool_rules.proofs.Soundness.{IsSound-state_of, upper-below}
-use Rattle.pool_rules.proofs.Tests.{
-  both, eqb-refl, and-both, same-eqb, or-cases, or-left, or-right, all-at_any, any-among, any-weaker, find-none,
-  one-fails,
-}
+use Rattle.pool_rules.proofs.Tests.{both, eqb-refl, and-both, same-eqb, or-cases, or-left, or-right, all-at_any}
+use Rattle.pool_rules.proofs.Tests.{any-among, any-weaker, find-none, one-fails}
 
 -- ---- which pages a page needs
 
@@ -294,12 +288,10 @@ settled-missing layout journal frame settle settled listed nothing page among ab
     failed-below layout frame settle.pages settle.missing s settle.after
     (record {
       bounds = settled.in_bounds;
-      sound =
-          IsSound-state_of layout journal settled.in_bounds settled.legal;
+      sound = IsSound-state_of layout journal settled.in_bounds settled.legal;
       waiting = waits.1;
       below = waits.0;
-      listed =
-          listed;
+      listed = listed;
       takeable = none.0;
       loading = none.1;
     })

@@ -1,8 +1,6 @@
 -- Which pages are pinned after frames, pins or marks changed.
-use Rattle.std.proofs.Common.{
-  ◌≡◌, ℕ, zero, suc, ◌==◌, List, [], ◌∷◌, Bool, true, false, cond, ◌⊎◌, inl, inr, ⊎_elim, get_or, set, replicate, map,
-  fold, refl, sym,
-}
+use Rattle.std.proofs.Common.{◌≡◌, ℕ, zero, suc, ◌==◌, List, [], ◌∷◌, Bool, true, false, cond, ◌⊎◌, inl, inr, ⊎_elim}
+use Rattle.std.proofs.Common.{get_or, set, replicate, map, fold, refl, sym}
 use Rattle.std.proofs.lemmas.Bool.Decides.{Decides-eqb}
 use Rattle.std.specs.List.{list_any}
 use Rattle.pool_rules.specs.Frame.{Frame}

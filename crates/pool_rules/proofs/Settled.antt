@@ -1,17 +1,15 @@
 -- A frame that has settled and is left alone: each page that it misses is still wanted, or pinned, or failed.
-use Rattle.std.proofs.Common.{
-  ◌≡◌, ℕ, ◌==◌, ◌<◌, nat_lt, List, [], ◌∷◌, ◌++◌, Bool, true, false, not, cond, ◌&&◌, ◌||◌, ◌⊎◌, inl, inr, ⊎_elim,
-  get_or, set, replicate, length, map, refl, ap, ◌∙◌, arith, append-nil, append_assoc, get_or-set_same, length-set,
-}
+use Rattle.std.proofs.Common.{◌≡◌, ℕ, ◌==◌, ◌<◌, nat_lt, List, [], ◌∷◌, ◌++◌, Bool, true, false, not, cond, ◌&&◌, ◌||◌}
+use Rattle.std.proofs.Common.{◌⊎◌, inl, inr, ⊎_elim, get_or, set, replicate, length, map, refl, ap, ◌∙◌, arith}
+use Rattle.std.proofs.Common.{append-nil, append_assoc, get_or-set_same, length-set}
 use Rattle.std.proofs.lemmas.Bool.Decides.{Decides-eqb, Decides-ltb}
 use Rattle.std.proofs.lemmas.List.{length-replicate}
 use Rattle.std.proofs.lemmas.List.Elements.{All-nil, All-cons, All-head, All-tail, All-filter}
 use Rattle.std.specs.List.{All, list_any}
 use Rattle.journal.specs.declared.entries.Entry.{Entry}
 use Rattle.journal.specs.declared.entries.What.{What}
-use Rattle.journal.specs.declared.entries.What.TheVariants.{
-  Pin, Settle, Ask, Narrow, Unpin, Take, Install, Fail, Spoil, Starve, Full, Stop,
-}
+use Rattle.journal.specs.declared.entries.What.TheVariants.{Pin, Settle, Ask, Narrow, Unpin, Take, Install, Fail, Spoil}
+use Rattle.journal.specs.declared.entries.What.TheVariants.{Starve, Full, Stop}
 use Rattle.journal.specs.declared.layouts.Layout.{Layout}
 use Rattle.journal.specs.Layout.{all_below}
 use Rattle.pool_rules.specs.Events.{changes_frame, has_failed, page_failed}
@@ -19,19 +17,16 @@ use Rattle.pool_rules.specs.Frame.{Frame}
 use Rattle.pool_rules.specs.declared.want.Want.{Want}
 use Rattle.pool_rules.specs.Numbers.{holds, is_among}
 use Rattle.pool_rules.specs.Rules.{pins, all_resident}
-use Rattle.pool_rules.specs.State.{
-  State, is_resident, is_live, waits_for, marked, replace_frame, frame_after_install, frames_after, wants_after,
-  wants_of, wants_of_others, wants_without, state_after, state_of,
-}
+use Rattle.pool_rules.specs.State.{State, is_resident, is_live, waits_for, marked, replace_frame, frame_after_install}
+use Rattle.pool_rules.specs.State.{frames_after, wants_after, wants_of, wants_of_others, wants_without, state_after}
+use Rattle.pool_rules.specs.State.{state_of}
 use Rattle.pool_rules.specs.Settled.{is_left_alone}
 use Rattle.pool_rules.proofs.Flags.{get_or-set_cases, place-within}
 use Rattle.pool_rules.proofs.LegalJournals.{state_of-push}
 use Rattle.pool_rules.proofs.Lengths.{HasItemAPage-state_of}
 use Rattle.pool_rules.proofs.Pinned.{mark_all}
-use Rattle.pool_rules.proofs.Tests.{
-  both, eqb-refl, and-both, same-eqb, or-cases, or-left, or-right, all-at_any, any-filter_kept, any-map,
-  any-append_left, any-append_right,
-}
+use Rattle.pool_rules.proofs.Tests.{both, eqb-refl, and-both, same-eqb, or-cases, or-left, or-right, all-at_any}
+use Rattle.pool_rules.proofs.Tests.{any-filter_kept, any-map, any-append_left, any-append_right}
 
 -- ---- each frame has a mark for each page
 

@@ -4,18 +4,16 @@ use Rattle.std.specs.Option.{option_map}
 use Rattle.journal.specs.declared.entries.Entry.{Entry}
 use Rattle.journal.specs.declared.entries.Spoilt.TheVariants.{Short}
 use Rattle.journal.specs.declared.entries.What.{What}
-use Rattle.journal.specs.declared.entries.What.TheVariants.{
-  Pin, Settle, Ask, Narrow, Unpin, Take, Install, Fail, Spoil, Starve, Full, Stop,
-}
+use Rattle.journal.specs.declared.entries.What.TheVariants.{Pin, Settle, Ask, Narrow, Unpin, Take, Install, Fail, Spoil}
+use Rattle.journal.specs.declared.entries.What.TheVariants.{Starve, Full, Stop}
 use Rattle.journal.specs.declared.layouts.Layout.{Layout}
 use Rattle.pool_rules.proofs.Examples.{entry, digest, flat, load, queued, shared}
 use Rattle.pool_rules.specs.declared.next_load.Next.TheVariants as Next
 use Rattle.pool_rules.specs.Events.{has_failed}
 use Rattle.pool_rules.specs.Next.{next_after}
 use Rattle.pool_rules.specs.Rules.{first_refused}
-use Rattle.pool_rules.specs.Settled.{
-  has_failed_need, is_left_alone, is_settled, last_settle, lists_uppers, needs, needs_within,
-}
+use Rattle.pool_rules.specs.Settled.{has_failed_need, is_left_alone, is_settled, last_settle, lists_uppers, needs}
+use Rattle.pool_rules.specs.Settled.{needs_within}
 use Rattle.pool_rules.specs.State.{residency}
 
 -- The last Settle: frame 0 settles twice, then frame 1 does.

@@ -1,21 +1,16 @@
 -- Every legal journal leaves a sound state: the opening is sound, and each allowed entry keeps it so.
-use Rattle.std.proofs.Common.{
-  ◌≡◌, ◌≢◌, ℕ, zero, suc, ◌+◌, ◌<◌, ◌≤◌, nat_lt, ◌==◌, List, [], ◌∷◌, Bool, true, false, not, cond, ◌&&◌, ◌||◌, ◌⊎◌,
-  inl, inr, ⊎_elim, Option, Some, None, is_some, get_or, set, length, map, replicate, refl, sym, ap, ◌∙◌, arith,
-  get_or-set_other, get_or-set_same,
-}
+use Rattle.std.proofs.Common.{◌≡◌, ◌≢◌, ℕ, zero, suc, ◌+◌, ◌<◌, ◌≤◌, nat_lt, ◌==◌, List, [], ◌∷◌, Bool, true, false}
+use Rattle.std.proofs.Common.{not, cond, ◌&&◌, ◌||◌, ◌⊎◌, inl, inr, ⊎_elim, Option, Some, None, is_some, get_or, set}
+use Rattle.std.proofs.Common.{length, map, replicate, refl, sym, ap, ◌∙◌, arith, get_or-set_other, get_or-set_same}
 use Rattle.std.specs.List.{count_by, list_any, list_all, range_with_len}
 use Rattle.std.proofs.lemmas.Bool.Decides.{Decides-ltb}
 use Rattle.std.proofs.lemmas.List.Folds.{list_any_at, sum_by-replicate}
-use Rattle.std.proofs.lemmas.List.FromFn.{
-  get_or-range_with_len, length-range_with_len, get_or-map-range_with_len, length-map-range_with_len,
-  sum_by-map-range_with_len_more,
-}
+use Rattle.std.proofs.lemmas.List.FromFn.{get_or-range_with_len, length-range_with_len, get_or-map-range_with_len}
+use Rattle.std.proofs.lemmas.List.FromFn.{length-map-range_with_len, sum_by-map-range_with_len_more}
 use Rattle.journal.specs.declared.entries.Entry.{Entry}
 use Rattle.journal.specs.declared.entries.What.{What}
-use Rattle.journal.specs.declared.entries.What.TheVariants.{
-  Pin, Settle, Ask, Narrow, Unpin, Take, Install, Fail, Spoil, Starve, Full, Stop,
-}
+use Rattle.journal.specs.declared.entries.What.TheVariants.{Pin, Settle, Ask, Narrow, Unpin, Take, Install, Fail, Spoil}
+use Rattle.journal.specs.declared.entries.What.TheVariants.{Starve, Full, Stop}
 use Rattle.pool_rules.specs.Frame.{Frame}
 use Rattle.pool_rules.specs.declared.want.Want.{Want}
 use Rattle.journal.specs.declared.layouts.Layout.{Layout}
@@ -24,16 +19,13 @@ use Rattle.pool_rules.specs.Numbers.{holds}
 use Rattle.pool_rules.specs.Next.{can_take, is_take, next_in}
 use Rattle.pool_rules.specs.Rules.{allows, owns, pins, loads, all_resident, IsLegal}
 use Rattle.pool_rules.specs.Sound.{IsSound}
-use Rattle.pool_rules.specs.State.{
-  State, is_resident, is_loading, is_held, held_count, initial_state, state_after, state_of, replace_frame, marked,
-  frame_after_install,
-}
+use Rattle.pool_rules.specs.State.{State, is_resident, is_loading, is_held, held_count, initial_state, state_after}
+use Rattle.pool_rules.specs.State.{state_of, replace_frame, marked, frame_after_install}
 use Rattle.pool_rules.specs.Victim.{is_pinned, is_stood_on, is_evictable}
 use Rattle.pool_rules.proofs.Arms.{settle-parts, narrow-pinned}
 use Rattle.pool_rules.proofs.Choices.{IsTaken, IsTaken-from_next}
-use Rattle.pool_rules.proofs.Flags.{
-  get_or-set_cases, count_by-set_up, count_by-set_down, count_by-set_gone, place-within,
-}
+use Rattle.pool_rules.proofs.Flags.{get_or-set_cases, count_by-set_up, count_by-set_down, count_by-set_gone}
+use Rattle.pool_rules.proofs.Flags.{place-within}
 use Rattle.pool_rules.proofs.Lengths.{HasItemAPage, HasItemAPage-state_of}
 use Rattle.pool_rules.proofs.LegalJournals.{state_of-push, legal-keeps}
 use Rattle.pool_rules.proofs.Pinned.{pinned, pinned-put, pinned-installed, marked-listed}
@@ -168,8 +160,7 @@ repinned : (layout : Layout) (s : State) (frames : List Frame) (wants : List Wan
       loading = s.loading;
       frames = frames;
       wants = wants;
-      last_used =
-          last_used;
+      last_used = last_used;
       stopped = stopped;
       entries = entries;
     })
@@ -195,8 +186,7 @@ unloaded : (layout : Layout) (s : State) (ended : ℕ) (wants : List Want) (last
       resident = s.resident;
       loading = set s.loading ended None;
       frames = s.frames;
-      wants =
-          wants;
+      wants = wants;
       last_used = last_used;
       stopped = stopped;
       entries = entries;
@@ -254,8 +244,7 @@ taken-free : (layout : Layout) (s : State) (taken by : ℕ) (entries : ℕ) → 
       resident = s.resident;
       loading = set s.loading taken (Some by);
       frames = s.frames;
-      wants =
-          s.wants;
+      wants = s.wants;
       last_used = s.last_used;
       stopped = s.stopped;
       entries = entries;
@@ -294,8 +283,7 @@ loose layout s page victim h =
       resident = a.0;
       no_root = not-false root b.0;
       unpinned = not-false pin c.0;
-      bare =
-          not-false stood d.0;
+      bare = not-false stood d.0;
       no_upper = not-false upper d.1;
     }
 
@@ -335,8 +323,7 @@ taken-for : (layout : Layout) (s : State) (taken by victim : ℕ) (entries : ℕ
     IsSound layout (record {
       resident = set s.resident victim false;
       loading = set s.loading taken (Some by);
-      frames =
-          s.frames;
+      frames = s.frames;
       wants = s.wants;
       last_used = s.last_used;
       stopped = s.stopped;
@@ -385,12 +372,10 @@ installed : (layout : Layout) (s : State) (page : ℕ) (wants : List Want) (last
     IsSound layout (record {
       resident = set s.resident page true;
       loading = set s.loading page None;
-      frames =
-          map (frame_after_install s.wants page) s.frames;
+      frames = map (frame_after_install s.wants page) s.frames;
       wants = wants;
       last_used = last_used;
-      stopped =
-          s.stopped;
+      stopped = s.stopped;
       entries = entries;
     })
 installed layout s page wants last_used entries lists sound loads = record {

@@ -1,15 +1,13 @@
 -- The victim that a fold over the pages finds comes first of all that may be evicted.
-use Rattle.std.proofs.Common.{
-  ◌≡◌, ℕ, zero, suc, ◌<◌, ◌≤◌, Bool, true, false, cond, nat_lt, ◌⊎◌, inl, inr, ⊎_elim, Option, Some, None, refl, arith,
-}
+use Rattle.std.proofs.Common.{◌≡◌, ℕ, zero, suc, ◌<◌, ◌≤◌, Bool, true, false, cond, nat_lt, ◌⊎◌, inl, inr, ⊎_elim}
+use Rattle.std.proofs.Common.{Option, Some, None, refl, arith}
 use Rattle.std.specs.List.{filter, fold, range_with_len}
 use Rattle.std.proofs.lemmas.Bool.{cases_lt}
 use Rattle.std.proofs.lemmas.Bool.Decides.{Decides-ltb, nat_tests}
 use Rattle.journal.specs.declared.layouts.Layout.{Layout}
 use Rattle.pool_rules.specs.State.{State}
-use Rattle.pool_rules.specs.Victim.{
-  last_used_of, less_recently_used, is_evictable, victim_for, IsLessRecent, IsVictim, HasNoVictim,
-}
+use Rattle.pool_rules.specs.Victim.{last_used_of, less_recently_used, is_evictable, victim_for, IsLessRecent, IsVictim}
+use Rattle.pool_rules.specs.Victim.{HasNoVictim}
 use Rattle.pool_rules.proofs.Ranges.{fold-filter_more}
 
 -- the best of the pages below n that pass

@@ -1,27 +1,21 @@
 -- Wants: none is of a resident page, and none of a live frame is removed but with the end of its page.
-use Rattle.std.proofs.Common.{
-  ◌≡◌, ℕ, zero, suc, ◌==◌, List, [], ◌∷◌, ◌++◌, Bool, true, false, not, cond, ◌&&◌, ◌⊎◌, inl, inr, ⊎_elim, Some, None,
-  filter, get_or, set, refl, ap, ◌∙◌, arith, get_or-set_other,
-}
+use Rattle.std.proofs.Common.{◌≡◌, ℕ, zero, suc, ◌==◌, List, [], ◌∷◌, ◌++◌, Bool, true, false, not, cond, ◌&&◌, ◌⊎◌}
+use Rattle.std.proofs.Common.{inl, inr, ⊎_elim, Some, None, filter, get_or, set, refl, ap, ◌∙◌, arith, get_or-set_other}
 use Rattle.std.proofs.lemmas.Bool.Decides.{Decides-eqb}
-use Rattle.std.proofs.lemmas.List.Elements.{
-  All-nil, All-append, All-filter, All-map, All-weaker, filter_passes, Contains-append_left,
-}
+use Rattle.std.proofs.lemmas.List.Elements.{All-nil, All-append, All-filter, All-map, All-weaker, filter_passes}
+use Rattle.std.proofs.lemmas.List.Elements.{Contains-append_left}
 use Rattle.std.specs.List.{All, Contains}
 use Rattle.journal.specs.declared.entries.Entry.{Entry}
 use Rattle.journal.specs.declared.entries.What.{What}
-use Rattle.journal.specs.declared.entries.What.TheVariants.{
-  Pin, Settle, Ask, Narrow, Unpin, Take, Install, Fail, Spoil, Starve, Full, Stop,
-}
+use Rattle.journal.specs.declared.entries.What.TheVariants.{Pin, Settle, Ask, Narrow, Unpin, Take, Install, Fail, Spoil}
+use Rattle.journal.specs.declared.entries.What.TheVariants.{Starve, Full, Stop}
 use Rattle.journal.specs.declared.layouts.Layout.{Layout}
 use Rattle.pool_rules.specs.declared.want.Want.{Want}
 use Rattle.pool_rules.specs.Events.{page_ended, replaces_wants}
 use Rattle.pool_rules.specs.Numbers.{holds}
 use Rattle.pool_rules.specs.Rules.{allows, IsLegal}
-use Rattle.pool_rules.specs.State.{
-  State, is_resident, is_live, initial_state, resident_after, wants_after, wants_of, wants_of_others, wants_without,
-  state_of,
-}
+use Rattle.pool_rules.specs.State.{State, is_resident, is_live, initial_state, resident_after, wants_after, wants_of}
+use Rattle.pool_rules.specs.State.{wants_of_others, wants_without, state_of}
 use Rattle.pool_rules.proofs.Arms.{settle-parts, ask-parts}
 use Rattle.pool_rules.proofs.Flags.{get_or-set_cases}
 use Rattle.pool_rules.proofs.LegalJournals.{state_of-push, legal-keeps}

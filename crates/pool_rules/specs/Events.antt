@@ -3,9 +3,8 @@ use Rattle.std.specs.Prelude.{◌==◌, ℕ, Bool, true, false, List, Option, No
 use Rattle.std.specs.List.{list_any}
 use Rattle.journal.specs.declared.entries.Entry.{Entry}
 use Rattle.journal.specs.declared.entries.What.{What}
-use Rattle.journal.specs.declared.entries.What.TheVariants.{
-  Pin, Settle, Ask, Narrow, Unpin, Take, Install, Fail, Spoil, Starve, Full, Stop,
-}
+use Rattle.journal.specs.declared.entries.What.TheVariants.{Pin, Settle, Ask, Narrow, Unpin, Take, Install, Fail, Spoil}
+use Rattle.journal.specs.declared.entries.What.TheVariants.{Starve, Full, Stop}
 use Rattle.pool_rules.specs.Numbers.{holds}
 
 -- the frame that the event names; none if it is an event of no frame

@@ -1,7 +1,6 @@
 -- What a loader may do next, for a frame or for all.
-use Rattle.std.specs.Prelude.{
-  ◌==◌, ◌&&◌, ℕ, List, Bool, true, false, not, find, nat_eq, nat_lt, if◌then◌else◌, Option, None, Some,
-}
+use Rattle.std.specs.Prelude.{◌==◌, ◌&&◌, ℕ, List, Bool, true, false, not, find, nat_eq, nat_lt, if◌then◌else◌, Option}
+use Rattle.std.specs.Prelude.{None, Some}
 use Rattle.std.specs.List.{list_all}
 use Rattle.std.specs.Option.{option_eq}
 use Rattle.journal.specs.declared.entries.Entry.{Entry}

@@ -1,8 +1,6 @@
 -- Frames that have settled: the pages for which a frame waits, and those for which it waits in vain.
-use Rattle.std.specs.Prelude.{
-  ◌≡◌, ◌==◌, ◌-◌, ◌&&◌, ◌||◌, ℕ, zero, suc, Bool, false, not, IsTrue, List, [], ◌∷◌, if◌then◌else◌, Option, None, Some,
-  is_some, take, drop,
-}
+use Rattle.std.specs.Prelude.{◌≡◌, ◌==◌, ◌-◌, ◌&&◌, ◌||◌, ℕ, zero, suc, Bool, false, not, IsTrue, List, [], ◌∷◌}
+use Rattle.std.specs.Prelude.{if◌then◌else◌, Option, None, Some, is_some, take, drop}
 use Rattle.std.specs.List.{list_all, list_any}
 use Rattle.std.specs.Option.{option_map_or, option_or}
 use Rattle.journal.specs.declared.entries.Entry.{Entry}

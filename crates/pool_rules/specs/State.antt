@@ -1,8 +1,7 @@
 -- The state of the pool after a journal: a fold over its entries, the oldest first.
-use Rattle.std.specs.Prelude.{
-  ◌==◌, ◌+◌, ◌&&◌, ◌||◌, ℕ, Bool, true, false, not, List, [], ◌∷◌, ◌++◌, length, map, filter, fold, nat_lt, replicate,
-  if◌then◌else◌, Option, None, Some, is_some, count_by, slice_set, slice_index_or,
-}
+use Rattle.std.specs.Prelude.{◌==◌, ◌+◌, ◌&&◌, ◌||◌, ℕ, Bool, true, false, not, List, [], ◌∷◌, ◌++◌, length, map}
+use Rattle.std.specs.Prelude.{filter, fold, nat_lt, replicate, if◌then◌else◌, Option, None, Some, is_some, count_by}
+use Rattle.std.specs.Prelude.{slice_set, slice_index_or}
 use Rattle.std.specs.List.{list_any}
 use Rattle.std.specs.Option.{option_map_or}
 use Rattle.journal.specs.declared.entries.Entry.{Entry}

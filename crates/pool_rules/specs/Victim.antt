@@ -1,8 +1,6 @@
 -- Which page is evicted for a page that is to be loaded.
-use Rattle.std.specs.Prelude.{
-  ◌≡◌, ◌<◌, ◌≤◌, ◌⊎◌, IsTrue, ◌&&◌, ℕ, List, Bool, false, not, fold, filter, nat_lt, if◌then◌else◌, Option, None, Some,
-  slice_index_or,
-}
+use Rattle.std.specs.Prelude.{◌≡◌, ◌<◌, ◌≤◌, ◌⊎◌, IsTrue, ◌&&◌, ℕ, List, Bool, false, not, fold, filter, nat_lt}
+use Rattle.std.specs.Prelude.{if◌then◌else◌, Option, None, Some, slice_index_or}
 use Rattle.std.specs.List.{list_any}
 use Rattle.journal.specs.declared.entries.Entry.{Entry}
 use Rattle.journal.specs.declared.layouts.Layout.{Layout}

@@ -1,8 +1,6 @@
 -- Numbers that ascend: what a binary search finds among them, and which are after a place.
-use Rattle.std.proofs.Common.{
-  ◌≡◌, ◌≢◌, ℕ, zero, suc, ◌+◌, ◌<◌, ◌≤◌, ◌==◌, nat_le, List, [], ◌∷◌, true, false, ⊎_elim, Result, Ok, Err, length,
-  get_or, drop, refl, sym, subst, arith, eq-eqb,
-}
+use Rattle.std.proofs.Common.{◌≡◌, ◌≢◌, ℕ, zero, suc, ◌+◌, ◌<◌, ◌≤◌, ◌==◌, nat_le, List, [], ◌∷◌, true, false, ⊎_elim}
+use Rattle.std.proofs.Common.{Result, Ok, Err, length, get_or, drop, refl, sym, subst, arith, eq-eqb}
 use Rattle.std.specs.List.Sorted.{IsBinarySearchResult}
 use Rattle.std.specs.Ordering.{nat_cmp}
 use Rattle.std.specs.Result.{MatchResult, is_ok}

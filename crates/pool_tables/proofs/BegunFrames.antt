@@ -1,8 +1,6 @@
 -- The frames that have an entry are those that have an item, after one entry more.
-use Rattle.std.proofs.Common.{
-  ◌≡◌, ℕ, ◌==◌, List, [], ◌∷◌, ◌++◌, Bool, true, false, not, cond, ◌||◌, ⊎_elim, Option, Some, None, is_some, refl, sym,
-  ap, ◌∙◌,
-}
+use Rattle.std.proofs.Common.{◌≡◌, ℕ, ◌==◌, List, [], ◌∷◌, ◌++◌, Bool, true, false, not, cond, ◌||◌, ⊎_elim, Option}
+use Rattle.std.proofs.Common.{Some, None, is_some, refl, sym, ap, ◌∙◌}
 use Rattle.std.specs.List.{list_any}
 use Rattle.journal.specs.declared.entries.Entry.{Entry}
 use Rattle.pool_rules.specs.Events.{frame_of}
@@ -25,7 +23,7 @@ any-push test [] e = last (test e)
     last false = refl
 any-push test (x ∷ journal) e =
     elim (test x) as (λ b. (b || list_any test (journal ++ e ∷ [])) ≡ ((b || list_any test journal) || test e))
-        [ true ↦ refl | false ↦ any-push test journal e ]
+    [ true ↦ refl | false ↦ any-push test journal e ]
 
 pub has_entry-push : (n : ℕ) (journal : List Entry) (e : Entry)
     → has_entry n (journal ++ e ∷ []) ≡ (has_entry n journal || is_entry_of n e.what)
@@ -49,7 +47,7 @@ pub AreBegun-put : (journal : List Entry) (e : Entry) (frame : ℕ) (item : Opti
     → AreBegun (journal ++ e ∷ []) new
 AreBegun-put journal e frame item old new begun of some puts = λ n.
     has_entry-push n journal e ∙ (ap (λ o. has_entry n journal || holds o n) of ∙
-        (pick n (frame == n) ∙ sym (ap is_some (puts.items n))))
+    (pick n (frame == n) ∙ sym (ap is_some (puts.items n))))
   where
     pick : (n : ℕ) (b : Bool) → (has_entry n journal || b) ≡ is_some (cond b item (item_in old n))
     pick n true = or-some (has_entry n journal) ∙ sym some
@@ -73,7 +71,7 @@ pub AreBegun-same : (journal : List Entry) (e : Entry) (old new : List (ℕ × F
     → AreBegun (journal ++ e ∷ []) new
 AreBegun-same journal e old new begun of same = λ n.
     has_entry-push n journal e ∙ (ap (λ o. has_entry n journal || holds o n) of ∙
-        (or-none (has_entry n journal) ∙ (begun n ∙ sym (same n))))
+    (or-none (has_entry n journal) ∙ (begun n ∙ sym (same n))))
 
 -- a frame that may be pinned, and has an item, is live
 pub may_pin-live : (s : State) (installed_at : ℕ → ℕ) (items : List (ℕ × FrameItem)) (journal : List Entry)
@@ -84,7 +82,7 @@ pub may_pin-live : (s : State) (installed_at : ℕ → ℕ) (items : List (ℕ �
 may_pin-live s installed_at items journal by frame are begun allowed item at = ⊎_elim
     (λ own. live item.ended_at refl (sym (owns-item s installed_at items by frame are ∙ ap (is_owned by) at) ∙ own))
     (λ new. let none = not-false (has_entry frame journal) new in let some : has_entry frame journal ≡ true =
-        begun frame ∙ ap is_some at in cc)
+    begun frame ∙ ap is_some at in cc)
     (or-cases (owns s by frame) (not (has_entry frame journal)) allowed)
   where
     live : (o : Option ℕ) → item.ended_at ≡ o → is_owned by (Some item) ≡ true → item.ended_at ≡ None

@@ -1,8 +1,7 @@
 -- One page more is used, or has a dependent more or less: the steps of loops over pages.
-use Rattle.std.proofs.Common.{
-  ◌≡◌, ◌≢◌, ℕ, suc, ◌+◌, ◌-◌, ◌<◌, ◌≤◌, ◌==◌, List, ◌∷◌, Bool, true, false, cond, inl, inr, ⊎_elim, get_or, set, length,
-  take, drop, refl, sym, ap, ◌∙◌, subst, arith, eq-eqb, length-set,
-}
+use Rattle.std.proofs.Common.{◌≡◌, ◌≢◌, ℕ, suc, ◌+◌, ◌-◌, ◌<◌, ◌≤◌, ◌==◌, List, ◌∷◌, Bool, true, false, cond, inl, inr}
+use Rattle.std.proofs.Common.{⊎_elim, get_or, set, length, take, drop, refl, sym, ap, ◌∙◌, subst, arith, eq-eqb}
+use Rattle.std.proofs.Common.{length-set}
 use Rattle.std.proofs.Math.Seq.{drop-cons}
 use Rattle.std.proofs.lemmas.Bool.{cases_eq}
 use Rattle.std.proofs.lemmas.List.Sums.{count_by_more_yes, count_by_more_no, sum_by-take-le}
@@ -10,9 +9,8 @@ use Rattle.journal.specs.Layout.{ascends}
 use Rattle.pool_rules.specs.Numbers.{is_among}
 use Rattle.pool_tables.specs.PageRecords.{PageRecords, record_at, with_record, IsUsedBefore}
 use Rattle.pool_tables.specs.declared.page_record.PageRecord.{PageRecord}
-use Rattle.pool_tables.specs.Changes.{
-  used_if, AreUsed, times, AreChanged, more_dependents, fewer_dependents, HaveMoreDependents, HaveFewerDependents,
-}
+use Rattle.pool_tables.specs.Changes.{used_if, AreUsed, times, AreChanged, more_dependents, fewer_dependents}
+use Rattle.pool_tables.specs.Changes.{HaveMoreDependents, HaveFewerDependents}
 use Rattle.pool_tables.proofs.Apart.{ne-eqb}
 use Rattle.pool_tables.proofs.AscendingNumbers.{after-place}
 use Rattle.pool_tables.proofs.UseOrder.{record-same, record-other}

@@ -1,8 +1,6 @@
 -- The records of the pages agree with the state after each kind of entry.
-use Rattle.std.proofs.Common.{
-  ◌≡◌, ℕ, ◌+◌, ◌<◌, ◌≤◌, nat_lt, List, [], ◌∷◌, Bool, true, false, not, ◌||◌, ⊎_elim, Option, Some, None, is_some,
-  get_or, set, refl, sym, ap, ◌∙◌, arith, length-set,
-}
+use Rattle.std.proofs.Common.{◌≡◌, ℕ, ◌+◌, ◌<◌, ◌≤◌, nat_lt, List, [], ◌∷◌, Bool, true, false, not, ◌||◌, ⊎_elim}
+use Rattle.std.proofs.Common.{Option, Some, None, is_some, get_or, set, refl, sym, ap, ◌∙◌, arith, length-set}
 use Rattle.std.specs.List.{list_all}
 use Rattle.std.proofs.lemmas.Bool.Decides.{nat_tests, Decides-ltb}
 use Rattle.journal.specs.declared.entries.What.TheVariants.{Settle, Narrow, Take, Install}
@@ -22,9 +20,8 @@ use Rattle.pool_rules.proofs.Tests.{and-both, not-false}
 use Rattle.pool_tables.specs.Changes.{AreUsed, HaveMoreDependents, HaveFewerDependents}
 use Rattle.pool_tables.specs.PageRecords.{PageRecords, record_at, with_record}
 use Rattle.pool_tables.specs.PoolPages.{ArePagesOf}
-use Rattle.pool_tables.proofs.PageEvents.{
-  ArePagesOf-evicted, ArePagesOf-taken, ArePagesOf-ended, ArePagesOf-installed, ArePagesOf-used,
-}
+use Rattle.pool_tables.proofs.PageEvents.{ArePagesOf-evicted, ArePagesOf-taken, ArePagesOf-ended, ArePagesOf-installed}
+use Rattle.pool_tables.proofs.PageEvents.{ArePagesOf-used}
 use Rattle.pool_tables.proofs.PoolPages.{dependents-same}
 
 -- an entry that changes neither residency nor loads nor last uses

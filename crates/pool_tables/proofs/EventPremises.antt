@@ -1,9 +1,7 @@
 -- What the events' lemmas take, from what the tables keep: counts that are no later than the entries, and frames
 -- that the state has.
-use Rattle.std.proofs.Common.{
-  ◌≡◌, ◌≢◌, ℕ, ◌+◌, ◌<◌, ◌≤◌, List, [], ◌∷◌, Bool, true, false, not, cond, Option, Some, None, is_some, get_or, refl,
-  sym, ap, ◌∙◌, subst, arith,
-}
+use Rattle.std.proofs.Common.{◌≡◌, ◌≢◌, ℕ, ◌+◌, ◌<◌, ◌≤◌, List, [], ◌∷◌, Bool, true, false, not, cond, Option, Some}
+use Rattle.std.proofs.Common.{None, is_some, get_or, refl, sym, ap, ◌∙◌, subst, arith}
 use Rattle.std.proofs.lemmas.Bool.Decides.{nat_tests}
 use Rattle.std.specs.List.{AllByRecursion}
 use Rattle.std.specs.Option.{option_map}
@@ -11,10 +9,8 @@ use Rattle.pool_rules.specs.Frame.{Frame}
 use Rattle.pool_rules.specs.State.{State, is_live}
 use Rattle.pool_rules.specs.Victim.{is_pinned}
 use Rattle.pool_tables.specs.Eviction.{is_in_snapshot}
-use Rattle.pool_tables.specs.FrameItems.{
-  FrameItems, asked_in, asked_item, ended_in, ended_item, installed_item, item_of, narrowed_item, pinned_item,
-  settled_item,
-}
+use Rattle.pool_tables.specs.FrameItems.{FrameItems, asked_in, asked_item, ended_in, ended_item, installed_item}
+use Rattle.pool_tables.specs.FrameItems.{item_of, narrowed_item, pinned_item, settled_item}
 use Rattle.pool_tables.specs.FrameMeaning.{AreFrames, IsTimelyItem, IsTimelyTable, frame_at}
 use Rattle.pool_tables.specs.FrameQueries.{is_live_in}
 use Rattle.pool_tables.specs.PageRecords.{record_at}
@@ -61,8 +57,11 @@ IsTimelyItem-pinned entries by None was =
     record { asked = omega arith; ended = no-count entries; snapshot = now-count entries }
 IsTimelyItem-pinned entries by (Some item) was =
     let t = was item refl in
-    record { asked = omega (arith, t.asked); ended = later-count entries item.ended_at t.ended; snapshot =
-        now-count entries }
+    record {
+      asked = omega (arith, t.asked);
+      ended = later-count entries item.ended_at t.ended;
+      snapshot = now-count entries;
+    }
 
 pub IsTimelyItem-settled : (entries : ℕ) (by : MakerId) (pins : PinLists) (item : FrameItem) → IsTimelyItem entries item
     → IsTimelyItem (entries + 1) (settled_item by (entries + 1) pins item)
@@ -72,14 +71,20 @@ IsTimelyItem-settled entries by pins item t =
 pub IsTimelyItem-asked : (entries : ℕ) (item : FrameItem) → IsTimelyItem entries item
     → IsTimelyItem (entries + 1) (asked_item (entries + 1) item)
 IsTimelyItem-asked entries item t =
-    record { asked = omega arith; ended = later-count entries item.ended_at t.ended; snapshot =
-        later-count entries item.snapshot t.snapshot }
+    record {
+      asked = omega arith;
+      ended = later-count entries item.ended_at t.ended;
+      snapshot = later-count entries item.snapshot t.snapshot;
+    }
 
 pub IsTimelyItem-narrowed : (entries : ℕ) (by : MakerId) (pages : List ℕ) (item : FrameItem) → IsTimelyItem entries item
     → IsTimelyItem (entries + 1) (narrowed_item by pages item)
 IsTimelyItem-narrowed entries by pages item t =
-    record { asked = omega (arith, t.asked); ended = later-count entries item.ended_at t.ended; snapshot =
-        no-count entries }
+    record {
+      asked = omega (arith, t.asked);
+      ended = later-count entries item.ended_at t.ended;
+      snapshot = no-count entries;
+    }
 
 pub IsTimelyItem-ended : (entries : ℕ) (item : FrameItem) → IsTimelyItem entries item
     → IsTimelyItem (entries + 1) (ended_item (entries + 1) item)
@@ -89,13 +94,19 @@ IsTimelyItem-ended entries item t =
 IsTimelyItem-installed : (entries page : ℕ) (item : FrameItem) → IsTimelyItem entries item
     → IsTimelyItem (entries + 1) (installed_item page item)
 IsTimelyItem-installed entries page item t =
-    record { asked = omega (arith, t.asked); ended = later-count entries item.ended_at t.ended; snapshot =
-        later-count entries item.snapshot t.snapshot }
+    record {
+      asked = omega (arith, t.asked);
+      ended = later-count entries item.ended_at t.ended;
+      snapshot = later-count entries item.snapshot t.snapshot;
+    }
 
 IsTimelyItem-later : (entries : ℕ) (item : FrameItem) → IsTimelyItem entries item → IsTimelyItem (entries + 1) item
 IsTimelyItem-later entries item t =
-    record { asked = omega (arith, t.asked); ended = later-count entries item.ended_at t.ended; snapshot =
-        later-count entries item.snapshot t.snapshot }
+    record {
+      asked = omega (arith, t.asked);
+      ended = later-count entries item.ended_at t.ended;
+      snapshot = later-count entries item.snapshot t.snapshot;
+    }
 
 -- an event that changes no item
 pub IsTimelyTable-later : (entries : ℕ) (table : FrameItems) → IsTimelyTable entries table
@@ -120,7 +131,7 @@ IsTimelyTable-installed entries page waits old new timely items last = record {
     pick n true (Some old_item) is item at =
         let same : installed_item page old_item ≡ item = cc in
         subst (IsTimelyItem (entries + 1)) same (IsTimelyItem-installed entries page old_item
-            (timely.items n old_item is))
+        (timely.items n old_item is))
     pick n false None is item at = cc
     pick n false (Some old_item) is item at =
         let same : old_item ≡ item = cc in

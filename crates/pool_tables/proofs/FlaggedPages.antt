@@ -1,8 +1,6 @@
 -- Flags of missing pages, and how often a page is in a list.
-use Rattle.std.proofs.Common.{
-  ◌≡◌, ℕ, zero, suc, ◌+◌, ◌<◌, ◌≤◌, ◌==◌, nat_lt, nat_le, List, [], ◌∷◌, ◌++◌, Bool, true, false, not, cond, ◌&&◌, ◌||◌,
-  length, get_or, set, refl, sym, ap, ◌∙◌, arith, eq-eqb,
-}
+use Rattle.std.proofs.Common.{◌≡◌, ℕ, zero, suc, ◌+◌, ◌<◌, ◌≤◌, ◌==◌, nat_lt, nat_le, List, [], ◌∷◌, ◌++◌, Bool, true}
+use Rattle.std.proofs.Common.{false, not, cond, ◌&&◌, ◌||◌, length, get_or, set, refl, sym, ap, ◌∙◌, arith, eq-eqb}
 use Rattle.std.proofs.lemmas.Bool.Decides.{nat_tests}
 use Rattle.std.proofs.lemmas.List.Sums.{sum_by-cons, sum_by-append}
 use Rattle.journal.specs.Layout.{ascends_from}
@@ -105,13 +103,13 @@ with_flag-at low (p ∷ ps) (flag ∷ flags) (suc i) page up len within here =
     let parts = and-both (nat_le low p) (ascends_from (p + 1) ps) up in
     let other = other-later p ps page parts.1 (among-at ps i page (omega (arith, within)) here) in
     rw other (ap (λ rest. flag ∷ rest) (with_flag-at (p + 1) ps flags i page parts.1 (omega (arith, len))
-        (omega (arith, within)) here))
+    (omega (arith, within)) here))
 
 -- the page is flagged once more if it was not
 pub times-flag : (missing : List ℕ) (flags : List Bool) (i page q : ℕ) → length flags ≡ length missing
     → i < length missing → get_or missing i 0 ≡ page
     → times (flagged missing (set flags i true)) q ≡ times (flagged missing flags) q + cond
-        (not (get_or flags i false) && (page == q)) 1 0
+    (not (get_or flags i false) && (page == q)) 1 0
 times-flag [] flags i page q len within here = absurd (omega (arith, within))
 times-flag (p ∷ ps) [] i page q len within here = absurd (omega (arith, len))
 times-flag (p ∷ ps) (true ∷ flags) zero page q len within here = omega arith
@@ -119,8 +117,12 @@ times-flag (p ∷ ps) (false ∷ flags) zero page q len within here =
     let same : ◌≡◌ {A = ℕ} (cond (p == q) 1 0) (cond (page == q) 1 0) = ap (λ n. cond (n == q) 1 0) here in
     omega (arith, times-cons p (flagged ps flags) q, same)
 times-flag (p ∷ ps) (true ∷ flags) (suc i) page q len within here =
-    omega (arith, times-cons p (flagged ps (set flags i true)) q, times-cons p (flagged ps flags) q,
-        times-flag ps flags i page q (omega (arith, len)) (omega (arith, within)) here)
+    omega (
+      arith,
+      times-cons p (flagged ps (set flags i true)) q,
+      times-cons p (flagged ps flags) q,
+      times-flag ps flags i page q (omega (arith, len)) (omega (arith, within)) here,
+    )
 times-flag (p ∷ ps) (false ∷ flags) (suc i) page q len within here =
     times-flag ps flags i page q (omega (arith, len)) (omega (arith, within)) here
 

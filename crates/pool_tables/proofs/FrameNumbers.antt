@@ -1,8 +1,6 @@
 -- Frames by their number: which frame has it, after frames were put, removed or changed.
-use Rattle.std.proofs.Common.{
-  ◌≡◌, ℕ, ◌==◌, List, [], ◌∷◌, Bool, true, false, not, cond, ◌&&◌, ◌||◌, ⊎_elim, Option, Some, None, filter, map, refl,
-  sym, ap, ◌∙◌,
-}
+use Rattle.std.proofs.Common.{◌≡◌, ℕ, ◌==◌, List, [], ◌∷◌, Bool, true, false, not, cond, ◌&&◌, ◌||◌, ⊎_elim, Option}
+use Rattle.std.proofs.Common.{Some, None, filter, map, refl, sym, ap, ◌∙◌}
 use Rattle.std.specs.List.{list_any}
 use Rattle.std.specs.Option.{is_some, option_map}
 use Rattle.std.proofs.lemmas.Bool.Decides.{Decides-eqb}
@@ -24,8 +22,8 @@ none-passes : (test : Frame → Bool) (n : ℕ) (frames : List Frame) → has_nu
 none-passes test n [] h = refl
 none-passes test n (f ∷ frames) h =
     elim (f.number == n) as (λ b. (b || has_number n frames) ≡ false →
-        ((b && test f) || list_any (λ f. (f.number == n) && test f) frames) ≡ false)
-        [ true ↦ λ k. cc | false ↦ λ k. none-passes test n frames k ] h
+    ((b && test f) || list_any (λ f. (f.number == n) && test f) frames) ≡ false)
+    [ true ↦ λ k. cc | false ↦ λ k. none-passes test n frames k ] h
 
 -- where no two frames have one number, the one that has it passes or none does
 pub any-numbered : (test : Frame → Bool) (n : ℕ) (frames : List Frame) → AreDistinct frames
@@ -33,8 +31,8 @@ pub any-numbered : (test : Frame → Bool) (n : ℕ) (frames : List Frame) → A
 any-numbered test n [] apart = refl
 any-numbered test n (f ∷ frames) apart =
     elim (f.number == n) as (λ b. (f.number == n) ≡ b →
-        ((b && test f) || list_any (λ f. (f.number == n) && test f) frames) ≡ passes test
-        (cond b (Some f) (frame_at n frames))) [
+    ((b && test f) || list_any (λ f. (f.number == n) && test f) frames) ≡ passes test
+    (cond b (Some f) (frame_at n frames))) [
       | true ↦ λ e. let same : f.number ≡ n =
           same-eqb f.number n e in let none : has_number n frames ≡ false =
           rw same at apart.0 in rw (none-passes test n frames none) (last (test f))
@@ -49,7 +47,7 @@ pub has_number-found : (n : ℕ) (frames : List Frame) → has_number n frames �
 has_number-found n [] = refl
 has_number-found n (f ∷ frames) =
     elim (f.number == n) as (λ b. (b || has_number n frames) ≡ is_some (cond b (Some f) (frame_at n frames)))
-        [ true ↦ refl | false ↦ has_number-found n frames ]
+    [ true ↦ refl | false ↦ has_number-found n frames ]
 
 -- the frame found has the number
 pub found-number : (n : ℕ) (frames : List Frame) (f : Frame) → frame_at n frames ≡ Some f → f.number ≡ n
@@ -66,7 +64,7 @@ pub any-found : (test : Frame → Bool) (n : ℕ) (frames : List Frame) (f : Fra
 any-found test n [] f h passes = cc
 any-found test n (g ∷ frames) f h passes =
     elim (g.number == n) as (λ b. cond b (Some g) (frame_at n frames) ≡ Some f →
-        (test g || list_any test frames) ≡ true) [
+    (test g || list_any test frames) ≡ true) [
       | true ↦ λ k. let is : test g ≡ true = cc in rw is refl
       | false ↦ λ k. later (test g) (any-found test n frames f k passes)
     ] h
@@ -113,8 +111,8 @@ pub frame_at-put : (n : ℕ) (frame : Frame) (frames : List Frame)
 frame_at-put n frame [] = refl
 frame_at-put n frame (f ∷ frames) =
     elim (f.number == frame.number) as (λ b. (f.number == frame.number) ≡ b →
-        frame_at n (cond b (frame ∷ frames) (f ∷ replace_frame frame frames)) ≡ cond (frame.number == n) (Some frame)
-        (cond (f.number == n) (Some f) (frame_at n frames))) [
+    frame_at n (cond b (frame ∷ frames) (f ∷ replace_frame frame frames)) ≡ cond (frame.number == n) (Some frame)
+    (cond (f.number == n) (Some f) (frame_at n frames))) [
       | true ↦ λ e. rw (same-numbers f.number frame.number n e) (both (frame.number == n))
       | false ↦ λ e. rw (frame_at-put n frame frames) (apart e)
     ] refl
@@ -133,18 +131,18 @@ frame_at-put n frame (f ∷ frames) =
 
     apart : (f.number == frame.number) ≡ false
         → cond (f.number == n) (Some f) (cond (frame.number == n) (Some frame) (frame_at n frames)) ≡ cond
-            (frame.number == n) (Some frame) (cond (f.number == n) (Some f) (frame_at n frames))
+        (frame.number == n) (Some frame) (cond (f.number == n) (Some f) (frame_at n frames))
     apart e =
         turned (f.number == n) (frame.number == n) (Some f) (Some frame) (frame_at n frames)
         (λ a b. let one : f.number ≡ n = same-eqb f.number n a in let two : frame.number ≡ n =
-            same-eqb frame.number n b in let same : (f.number == frame.number) ≡ true =
-            rw (one, two) (eqb-refl n) in cc)
+        same-eqb frame.number n b in let same : (f.number == frame.number) ≡ true =
+        rw (one, two) (eqb-refl n) in cc)
 
 has_number-put : (n : ℕ) (frame : Frame) (frames : List Frame)
     → has_number n (replace_frame frame frames) ≡ ((frame.number == n) || has_number n frames)
 has_number-put n frame frames =
     has_number-found n (replace_frame frame frames) ∙
-        (ap is_some (frame_at-put n frame frames) ∙ split (frame.number == n))
+    (ap is_some (frame_at-put n frame frames) ∙ split (frame.number == n))
   where
     split : (b : Bool) → is_some (cond b (Some frame) (frame_at n frames)) ≡ (b || has_number n frames)
     split true = refl
@@ -155,19 +153,23 @@ pub AreDistinct-put : (frame : Frame) (frames : List Frame) → AreDistinct fram
 AreDistinct-put frame [] apart = (refl, tt)
 AreDistinct-put frame (f ∷ frames) apart =
     elim (f.number == frame.number) as (λ b. (f.number == frame.number) ≡ b →
-        AreDistinct (cond b (frame ∷ frames) (f ∷ replace_frame frame frames))) [
+    AreDistinct (cond b (frame ∷ frames) (f ∷ replace_frame frame frames))) [
       | true ↦ λ e. let same : f.number ≡ frame.number =
           same-eqb f.number frame.number e in (rw same at apart.0, apart.1)
-      | false ↦ λ e. (has_number-put f.number frame frames ∙
-          (rw (turned e) apart.0), AreDistinct-put frame frames apart.1)
+      | false ↦ λ e. (
+        has_number-put f.number frame frames ∙ (rw (turned e) apart.0),
+        AreDistinct-put frame frames apart.1,
+      )
     ] refl
   where
     turned : (f.number == frame.number) ≡ false → (frame.number == f.number) ≡ false
     turned e =
-        elim (frame.number == f.number) as (λ b. (frame.number == f.number) ≡ b → b ≡ false)
-            [ true ↦ λ k. let same : frame.number ≡ f.number =
-            same-eqb frame.number f.number k in let yes : (f.number == frame.number) ≡ true =
-            rw same (eqb-refl f.number) in cc | false ↦ λ k. refl ] refl
+        elim (frame.number == f.number) as (λ b. (frame.number == f.number) ≡ b → b ≡ false) [
+          | true ↦ λ k. let same : frame.number ≡ f.number =
+              same-eqb frame.number f.number k in let yes : (f.number == frame.number) ≡ true =
+              rw same (eqb-refl f.number) in cc
+          | false ↦ λ k. refl
+        ] refl
 
 -- ---- after the frame of a number was removed
 
@@ -183,8 +185,8 @@ pub frame_at-others : (n m : ℕ) (frames : List Frame)
 frame_at-others n m [] = nothing (m == n) None
 frame_at-others n m (f ∷ frames) =
     elim (f.number == m) as (λ b. (f.number == m) ≡ b →
-        frame_at n (cond (not b) (f ∷ others m frames) (others m frames)) ≡ cond (m == n) None
-        (cond (f.number == n) (Some f) (frame_at n frames))) [
+    frame_at n (cond (not b) (f ∷ others m frames) (others m frames)) ≡ cond (m == n) None
+    (cond (f.number == n) (Some f) (frame_at n frames))) [
       | true ↦ λ e. frame_at-others n m frames ∙ rw (same-numbers f.number m n e) (gone (m == n))
       | false ↦ λ e. rw (frame_at-others n m frames)
           (turned (f.number == n) (m == n) (λ a b. let one : f.number ≡ n = same-eqb f.number n a in let two : m ≡ n =
@@ -215,9 +217,11 @@ pub AreDistinct-others : (m : ℕ) (frames : List Frame) → AreDistinct frames
     → AreDistinct (filter (λ f. not (f.number == m)) frames)
 AreDistinct-others m [] apart = tt
 AreDistinct-others m (f ∷ frames) apart =
-    elim (f.number == m) as (λ b. AreDistinct (cond (not b) (f ∷ others m frames) (others m frames)))
-        [ true ↦ AreDistinct-others m frames apart.1 | false ↦
-        (has_number-others f.number m frames apart.0, AreDistinct-others m frames apart.1) ]
+    elim (f.number == m) as (λ b. AreDistinct (cond (not b) (f ∷ others m frames) (others m frames))) [
+      | true ↦ AreDistinct-others m frames apart.1
+      | false ↦
+          (has_number-others f.number m frames apart.0, AreDistinct-others m frames apart.1)
+    ]
 
 -- ---- after a change of each frame that keeps its number
 

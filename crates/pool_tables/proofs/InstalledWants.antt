@@ -1,7 +1,6 @@
 -- A loop that installs a page for each want of it: one want more.
-use Rattle.std.proofs.Common.{
-  ◌≡◌, ℕ, ◌+◌, ◌==◌, List, [], ◌∷◌, Bool, true, false, cond, ◌&&◌, ◌||◌, Option, Some, None, refl, sym, ap, ◌∙◌, arith,
-}
+use Rattle.std.proofs.Common.{◌≡◌, ℕ, ◌+◌, ◌==◌, List, [], ◌∷◌, Bool, true, false, cond, ◌&&◌, ◌||◌, Option, Some, None}
+use Rattle.std.proofs.Common.{refl, sym, ap, ◌∙◌, arith}
 use Rattle.std.specs.Option.{option_map}
 use Rattle.pool_rules.specs.State.{waits_for}
 use Rattle.pool_tables.specs.FrameItems.{FrameItems, asked_in, ended_in, installed_item, item_of}
@@ -22,7 +21,7 @@ with_flag-twice page [] flags = refl
 with_flag-twice page (p ∷ missing) [] = refl
 with_flag-twice page (p ∷ missing) (flag ∷ flags) =
     ap (λ b. b ∷ with_flag page missing (with_flag page missing flags)) (or-twice (p == page) flag) ∙
-        ap (λ rest. ((p == page) || flag) ∷ rest) (with_flag-twice page missing flags)
+    ap (λ rest. ((p == page) || flag) ∷ rest) (with_flag-twice page missing flags)
 
 -- the item, or the item with the page installed
 abbrev pub grown : Bool → ℕ → Option FrameItem → Option FrameItem
@@ -33,7 +32,7 @@ installed-twice : (page : ℕ) (item : Option FrameItem)
 installed-twice page None = refl
 installed-twice page (Some item) =
     let with_flags : List Bool → Option FrameItem =
-        λ flags. Some (record item { pins = record item.pins { flags = flags } }) in
+    λ flags. Some (record item { pins = record item.pins { flags = flags } }) in
     ap with_flags (with_flag-twice page item.pins.missing item.pins.flags)
 
 pub grown-grown : (a b : Bool) (page : ℕ) (item : Option FrameItem)

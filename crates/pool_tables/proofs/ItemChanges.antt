@@ -53,9 +53,9 @@ pub PutsItem-changed : (frame : ℕ) (change : FrameItem → FrameItem) (old new
     → PutsItem frame (option_map change (item_in old.entries frame)) old.entries new.entries
 PutsItem-changed frame change old new v w at is writes =
     let mapped : option_map change (item_in old.entries frame) ≡ Some w =
-        ap (option_map change) at ∙ ap (λ (x : FrameItem). Some x) (sym is) in
+    ap (option_map change) at ∙ ap (λ (x : FrameItem). Some x) (sym is) in
     subst (λ (o : Option FrameItem). PutsItem frame o old.entries new.entries) (sym mapped)
-        (PutsItem-written frame old new v w at writes)
+    (PutsItem-written frame old new v w at writes)
 
 pub pins_in-some : (items : BTreeMap ℕ FrameItem) (frame : ℕ) (v : FrameItem) (page : ℕ)
     → get nat_cmp items frame ≡ Some v
@@ -70,7 +70,7 @@ pub PutsItem-pinned : (frame : ℕ) (change : Option FrameItem → FrameItem) (o
 PutsItem-pinned frame change old new v w at is writes =
     let made : change (item_in old.entries frame) ≡ w = ap change at ∙ sym is in
     subst (λ (x : FrameItem). PutsItem frame (Some x) old.entries new.entries) (sym made)
-        (PutsItem-written frame old new v w at writes)
+    (PutsItem-written frame old new v w at writes)
 
 -- a Pin of a new frame
 pub PutsItem-begun : (frame : ℕ) (change : Option FrameItem → FrameItem) (old new : BTreeMap ℕ FrameItem)
@@ -81,4 +81,4 @@ pub PutsItem-begun : (frame : ℕ) (change : Option FrameItem → FrameItem) (ol
 PutsItem-begun frame change old new w absent is ordered ordered_now updates inserted =
     let made : change (item_in old.entries frame) ≡ w = ap change absent ∙ sym is in
     subst (λ (x : FrameItem). PutsItem frame (Some x) old.entries new.entries) (sym made)
-        (PutsItem-inserted frame old new w ordered ordered_now updates inserted)
+    (PutsItem-inserted frame old new w ordered ordered_now updates inserted)

@@ -1,18 +1,15 @@
 -- What links lead through, and what a push and a removal leave of it.
-use Rattle.std.proofs.Common.{
-  ◌≡◌, ◌≢◌, ℕ, zero, suc, ◌+◌, ◌<◌, ◌≤◌, List, [], ◌∷◌, ◌++◌, true, false, ⊎_elim, get_or, set, length, replicate, refl,
-  sym, ap, ◌∙◌, subst, arith, get_or-set_other, get_or-set_same, length-set, eq-eqb,
-}
+use Rattle.std.proofs.Common.{◌≡◌, ◌≢◌, ℕ, zero, suc, ◌+◌, ◌<◌, ◌≤◌, List, [], ◌∷◌, ◌++◌, true, false, ⊎_elim, get_or}
+use Rattle.std.proofs.Common.{set, length, replicate, refl, sym, ap, ◌∙◌, subst, arith, get_or-set_other}
+use Rattle.std.proofs.Common.{get_or-set_same, length-set, eq-eqb}
 use Rattle.std.specs.List.{AllByRecursion}
 use Rattle.std.proofs.lemmas.Bool.{cases_eq}
 use Rattle.std.proofs.lemmas.List.{get_or-replicate, length-replicate}
 use Rattle.pool_rules.specs.Numbers.{is_among}
 use Rattle.pool_tables.specs.ListedPages.{without}
 use Rattle.pool_tables.specs.Internal.Links.{Lacks, AreApart, Leads, AreJoined, AreLinked, pages_after, IsPath, IsRing}
-use Rattle.pool_tables.proofs.Apart.{
-  ne-eqb, Lacks-from_among, all-among, without-head, without-other, without-lacking, all-without, AreApart-without,
-  all-push, AreApart-push, length-apart,
-}
+use Rattle.pool_tables.proofs.Apart.{ne-eqb, Lacks-from_among, all-among, without-head, without-other, without-lacking}
+use Rattle.pool_tables.proofs.Apart.{all-without, AreApart-without, all-push, AreApart-push, length-apart}
 
 -- ---- which list is found
 

@@ -1,13 +1,10 @@
 -- Each event keeps the counts in the table of makers those of the journal.
-use Rattle.std.proofs.Common.{
-  ◌≡◌, ℕ, ◌==◌, List, [], ◌∷◌, ◌++◌, Bool, true, false, cond, ◌||◌, ⊎_elim, Option, Some, None, fold, get_or, set, refl,
-  sym, ◌∙◌, eq-eqb,
-}
+use Rattle.std.proofs.Common.{◌≡◌, ℕ, ◌==◌, List, [], ◌∷◌, ◌++◌, Bool, true, false, cond, ◌||◌, ⊎_elim, Option, Some}
+use Rattle.std.proofs.Common.{None, fold, get_or, set, refl, sym, ◌∙◌, eq-eqb}
 use Rattle.journal.specs.declared.entries.Entry.{Entry}
 use Rattle.journal.specs.declared.entries.What.{What}
-use Rattle.journal.specs.declared.entries.What.TheVariants.{
-  Pin, Settle, Ask, Narrow, Unpin, Take, Install, Fail, Spoil, Starve, Full, Stop,
-}
+use Rattle.journal.specs.declared.entries.What.TheVariants.{Pin, Settle, Ask, Narrow, Unpin, Take, Install, Fail, Spoil}
+use Rattle.journal.specs.declared.entries.What.TheVariants.{Starve, Full, Stop}
 use Rattle.pool_rules.specs.Rules.{after_fail, last_after}
 use Rattle.pool_rules.proofs.Flags.{get_or-set_cases}
 use Rattle.pool_rules.proofs.Tests.{or-left, or-right}
@@ -17,7 +14,7 @@ use Rattle.pool_tables.specs.MakerMeaning.{AreMakers, is_fail}
 -- the count of faults after one entry more
 fold-push : (maker : ℕ) (start : ℕ) (journal : List Entry) (e : Entry)
     → fold (λ last (x : Entry). after_fail (x.by == maker) x.what last) start (journal ++ e ∷ []) ≡ after_fail
-        (e.by == maker) e.what (fold (λ last (x : Entry). after_fail (x.by == maker) x.what last) start journal)
+    (e.by == maker) e.what (fold (λ last (x : Entry). after_fail (x.by == maker) x.what last) start journal)
 fold-push maker start [] e = refl
 fold-push maker start (x ∷ journal) e = fold-push maker (after_fail (x.by == maker) x.what start) journal e
 

@@ -1,8 +1,6 @@
 -- The list by page that marks some pages, and what a change of one page leaves of lists by page.
-use Rattle.std.proofs.Common.{
-  ◌≡◌, ℕ, ◌<◌, ◌==◌, nat_lt, List, [], ◌∷◌, Bool, true, false, ⊎_elim, fold, get_or, length, replicate, set, refl, ◌∙◌,
-  arith, length-set, get_or-set_same,
-}
+use Rattle.std.proofs.Common.{◌≡◌, ℕ, ◌<◌, ◌==◌, nat_lt, List, [], ◌∷◌, Bool, true, false, ⊎_elim, fold, get_or, length}
+use Rattle.std.proofs.Common.{replicate, set, refl, ◌∙◌, arith, length-set, get_or-set_same}
 use Rattle.std.proofs.lemmas.Bool.Decides.{nat_tests}
 use Rattle.std.proofs.lemmas.List.{length-replicate}
 use Rattle.journal.specs.Layout.{all_below}
@@ -17,7 +15,7 @@ still-marked : (start : List Bool) (pages : List ℕ) (p : ℕ) → get_or start
 still-marked start [] p h = h
 still-marked start (q ∷ pages) p h =
     still-marked (set start q true) pages p (⊎_elim (λ same. same ∙ h) (λ here. here.1)
-        (get_or-set_cases start q p true false))
+    (get_or-set_cases start q p true false))
 
 now-marked : (start : List Bool) (pages : List ℕ) (p : ℕ) → p < length start → is_among pages p ≡ true
     → get_or (fold (λ marks page. set marks page true) start pages) p false ≡ true
@@ -25,7 +23,7 @@ now-marked start [] p below h = cc
 now-marked start (q ∷ pages) p below h =
     ⊎_elim
     (λ here. let same : q ≡ p = same-eqb q p here in still-marked (set start q true) pages p
-        (rw same (get_or-set_same start p true false below)))
+    (rw same (get_or-set_same start p true false below)))
     (λ later. now-marked (set start q true) pages p (omega (arith, below, length-set start q true)) later)
     (or-cases (q == p) (is_among pages p) h)
 

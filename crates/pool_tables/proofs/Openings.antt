@@ -1,12 +1,10 @@
 -- The records, the order of use and the count of held pages after no entry.
-use Rattle.std.proofs.Common.{
-  ◌≡◌, ℕ, zero, suc, ◌+◌, ◌<◌, ◌≤◌, min, nat_lt, Bool, true, false, not, cond, ◌||◌, ◌&&◌, refl, sym, ap, ◌∙◌, arith,
-}
+use Rattle.std.proofs.Common.{◌≡◌, ℕ, zero, suc, ◌+◌, ◌<◌, ◌≤◌, min, nat_lt, Bool, true, false, not, cond, ◌||◌, ◌&&◌}
+use Rattle.std.proofs.Common.{refl, sym, ap, ◌∙◌, arith}
 use Rattle.std.specs.List.{count_by}
 use Rattle.std.proofs.lemmas.Bool.Decides.{nat_tests, Decides-ltb}
-use Rattle.std.proofs.lemmas.List.FromFn.{
-  get_or-map-range_with_len, length-map-range_with_len, sum_by-map-range_with_len_more,
-}
+use Rattle.std.proofs.lemmas.List.FromFn.{get_or-map-range_with_len, length-map-range_with_len}
+use Rattle.std.proofs.lemmas.List.FromFn.{sum_by-map-range_with_len_more}
 use Rattle.pool_tables.specs.ListedPages.{no_pages}
 use Rattle.pool_tables.specs.PageRecords.{no_record, record_at, is_record_held, opening_record, opening_records}
 use Rattle.pool_tables.specs.declared.page_record.PageRecord.{PageRecord}

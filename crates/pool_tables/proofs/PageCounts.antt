@@ -1,8 +1,6 @@
 -- How many numbers of a range pass a test, also once the test changes at one of them.
-use Rattle.std.proofs.Common.{
-  ◌≡◌, ◌≢◌, ℕ, zero, suc, ◌+◌, ◌<◌, ◌≤◌, ◌==◌, nat_le, List, [], ◌∷◌, Bool, true, false, not, cond, ◌||◌, ◌&&◌, ⊎_elim,
-  refl, ap, ◌∙◌, arith, eq-eqb,
-}
+use Rattle.std.proofs.Common.{◌≡◌, ◌≢◌, ℕ, zero, suc, ◌+◌, ◌<◌, ◌≤◌, ◌==◌, nat_le, List, [], ◌∷◌, Bool, true, false}
+use Rattle.std.proofs.Common.{not, cond, ◌||◌, ◌&&◌, ⊎_elim, refl, ap, ◌∙◌, arith, eq-eqb}
 use Rattle.std.specs.List.{count_by, list_any, range_with_len}
 use Rattle.std.proofs.lemmas.Bool.{cases_eq}
 use Rattle.std.proofs.lemmas.List.Sums.{sum_by-cons}

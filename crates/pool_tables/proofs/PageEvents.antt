@@ -1,9 +1,8 @@
 -- The records of the pages agree with the state of the pool after no entry, and after each change of one entry.
-use Rattle.std.proofs.Common.{
-  ◌≡◌, ◌≢◌, ℕ, zero, suc, ◌+◌, ◌-◌, ◌<◌, ◌≤◌, nat_lt, List, [], ◌∷◌, Bool, true, false, cond, ◌||◌, ◌&&◌, ⊎_elim,
-  Option, Some, None, is_some, get_or, set, length, map, replicate, refl, sym, ap, ◌∙◌, arith, get_or-set_other,
-  get_or-set_same, length-set, eq-eqb, ◌==◌,
-}
+use Rattle.std.proofs.Common.{◌≡◌, ◌≢◌, ℕ, zero, suc, ◌+◌, ◌-◌, ◌<◌, ◌≤◌, nat_lt, List, [], ◌∷◌, Bool, true, false}
+use Rattle.std.proofs.Common.{cond, ◌||◌, ◌&&◌, ⊎_elim, Option, Some, None, is_some, get_or, set, length, map}
+use Rattle.std.proofs.Common.{replicate, refl, sym, ap, ◌∙◌, arith, get_or-set_other, get_or-set_same, length-set}
+use Rattle.std.proofs.Common.{eq-eqb, ◌==◌}
 use Rattle.std.specs.List.{count_by, range_with_len}
 use Rattle.std.proofs.Math.ListN.{get_or-map}
 use Rattle.std.proofs.Math.Seq.{map-set_same}
@@ -16,17 +15,15 @@ use Rattle.pool_rules.specs.State.{State, is_resident, is_loading, is_held, init
 use Rattle.pool_rules.proofs.Lengths.{HasItemAPage}
 use Rattle.pool_rules.proofs.Soundness.{resident-root, none-loading}
 use Rattle.pool_tables.specs.Changes.{used_if, times, AreUsed, HaveMoreDependents, HaveFewerDependents}
-use Rattle.pool_tables.specs.PageRecords.{
-  PageRecords, no_record, record_at, with_record, opening_record, opening_records,
-}
+use Rattle.pool_tables.specs.PageRecords.{PageRecords, no_record, record_at, with_record, opening_record}
+use Rattle.pool_tables.specs.PageRecords.{opening_records}
 use Rattle.pool_tables.specs.PoolPages.{dependent_count, loader_number, ArePagesOf}
 use Rattle.pool_tables.specs.declared.page_record.PageRecord.{PageRecord}
 use Rattle.pool_tables.proofs.Apart.{ne-eqb}
 use Rattle.pool_tables.proofs.Changes.{more-dependents, fewer-dependents}
 use Rattle.pool_tables.proofs.PageCounts.{count-same}
-use Rattle.pool_tables.proofs.PoolPages.{
-  resident_of, used_of, maps-kept, field-kept, dependents-added, dependents-removed, dependents-same,
-}
+use Rattle.pool_tables.proofs.PoolPages.{resident_of, used_of, maps-kept, field-kept, dependents-added}
+use Rattle.pool_tables.proofs.PoolPages.{dependents-removed, dependents-same}
 
 -- ---- after no entry
 

@@ -1,25 +1,21 @@
 -- What holds of records that agree with a sound state: what the calls of the table require, and how many are held.
-use Rattle.std.proofs.Common.{
-  ◌≡◌, ℕ, zero, suc, ◌+◌, ◌-◌, ◌^◌, ◌<◌, ◌≤◌, List, [], ◌∷◌, Bool, true, false, ◌||◌, ◌&&◌, Option, is_some, get_or,
-  length, map, fold, replicate, refl, sym, ap, ◌∙◌, arith, ⊎_elim, filter, cond, None, Some,
-}
+use Rattle.std.proofs.Common.{◌≡◌, ℕ, zero, suc, ◌+◌, ◌-◌, ◌^◌, ◌<◌, ◌≤◌, List, [], ◌∷◌, Bool, true, false, ◌||◌, ◌&&◌}
+use Rattle.std.proofs.Common.{Option, is_some, get_or, length, map, fold, replicate, refl, sym, ap, ◌∙◌, arith, ⊎_elim}
+use Rattle.std.proofs.Common.{filter, cond, None, Some}
 use Rattle.std.specs.List.{count_by, range_with_len}
 use Rattle.std.proofs.lemmas.List.{length-map}
 use Rattle.std.proofs.lemmas.List.FromFn.{length-range_with_len}
 use Rattle.std.proofs.lemmas.List.Sums.{count_by-le-length, sum_by-cons}
 use Rattle.journal.specs.declared.entries.Entry.{Entry}
 use Rattle.journal.specs.declared.entries.What.{What}
-use Rattle.journal.specs.declared.entries.What.TheVariants.{
-  Pin, Settle, Ask, Narrow, Unpin, Take, Install, Fail, Spoil, Starve, Full, Stop,
-}
+use Rattle.journal.specs.declared.entries.What.TheVariants.{Pin, Settle, Ask, Narrow, Unpin, Take, Install, Fail, Spoil}
+use Rattle.journal.specs.declared.entries.What.TheVariants.{Starve, Full, Stop}
 use Rattle.journal.specs.declared.layouts.Layout.{Layout}
 use Rattle.journal.specs.Layout.{InBounds, page_numbers, uppers_of, is_upper}
 use Rattle.pool_rules.specs.Numbers.{is_among}
 use Rattle.pool_rules.specs.Sound.{IsSound}
-use Rattle.pool_rules.specs.State.{
-  State, is_resident, is_held, held_count, initial_state, state_after, state_of, set_last_used, last_used_after,
-  is_loading,
-}
+use Rattle.pool_rules.specs.State.{State, is_resident, is_held, held_count, initial_state, state_after, state_of}
+use Rattle.pool_rules.specs.State.{set_last_used, last_used_after, is_loading}
 use Rattle.pool_rules.specs.Victim.{last_used_of}
 use Rattle.pool_rules.proofs.Flags.{get_or-set_cases}
 use Rattle.pool_rules.proofs.Lengths.{HasItemAPage}
@@ -29,9 +25,8 @@ use Rattle.pool_tables.specs.PoolPages.{loader_number, ArePagesOf}
 use Rattle.pool_tables.specs.declared.page_record.MakerId.{MakerId}
 use Rattle.pool_tables.specs.declared.page_record.PageRecord.{PageRecord}
 use Rattle.pool_tables.proofs.PageCounts.{one, count-least}
-use Rattle.pool_tables.proofs.PoolPages.{
-  resident_of, resident-at, loading-at, last_used-at, is_some-mapped, times-upper,
-}
+use Rattle.pool_tables.proofs.PoolPages.{resident_of, resident-at, loading-at, last_used-at, is_some-mapped}
+use Rattle.pool_tables.proofs.PoolPages.{times-upper}
 use Rattle.pool_tables.proofs.Victims.{upper-below}
 
 -- ---- what the calls require

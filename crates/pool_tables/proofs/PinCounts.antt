@@ -1,8 +1,7 @@
 -- What the count of explicit pins of a page tells, and which pages some live frame pins.
-use Rattle.std.proofs.Common.{
-  ◌≡◌, ℕ, ◌*◌, length, ◌+◌, ◌<◌, ◌≤◌, ◌==◌, nat_cmp, nat_lt, List, [], ◌∷◌, Bool, true, false, cond, ◌&&◌, ◌||◌, ⊎_elim,
-  Option, Some, None, get_or, refl, sym, ap, ◌∙◌, subst, arith, eq-eqb, is_some,
-}
+use Rattle.std.proofs.Common.{◌≡◌, ℕ, ◌*◌, length, ◌+◌, ◌<◌, ◌≤◌, ◌==◌, nat_cmp, nat_lt, List, [], ◌∷◌, Bool, true}
+use Rattle.std.proofs.Common.{false, cond, ◌&&◌, ◌||◌, ⊎_elim, Option, Some, None, get_or, refl, sym, ap, ◌∙◌, subst}
+use Rattle.std.proofs.Common.{arith, eq-eqb, is_some}
 use Rattle.std.proofs.lemmas.Bool.Decides.{nat_tests}
 use Rattle.std.proofs.lemmas.List.Sums.{sum_by-cons}
 use Rattle.std.specs.BTreeMap.{is_at}
@@ -44,7 +43,7 @@ pin_count-least [] n item page at = cc
 pin_count-least (e ∷ items) n item page at =
     let sum = pin_count-cons e items page in
     elim (is_at (nat_cmp n) e.0) as (λ b. cond b (Some e.1) (item_in items n) ≡ Some item →
-        counted page item ≤ pin_count (e ∷ items) page) [
+    counted page item ≤ pin_count (e ∷ items) page) [
       | true ↦ λ k. let same : e.1 ≡ item =
           cc in let count : counted page e.1 ≡ counted page item = ap (counted page) same in omega (arith, sum, count)
       | false ↦ λ k. omega (arith, sum, pin_count-least items n item page k)
@@ -56,7 +55,7 @@ key-of : (P : ℕ → Type 0) (items : List (ℕ × FrameItem)) (n : ℕ) (item 
 key-of P [] n item all at = cc
 key-of P (e ∷ items) n item all at =
     elim (is_at (nat_cmp n) e.0) as (λ b. is_at (nat_cmp n) e.0 ≡ b → cond b (Some e.1) (item_in items n) ≡ Some item →
-        P n) [
+    P n) [
       | true ↦ λ yes k. subst P (sym (same-eqb n e.0 (sym (is_at-eqb n e.0) ∙ yes))) all.0
       | false ↦ λ no k. key-of P items n item all.1 k
     ] refl at
@@ -78,25 +77,37 @@ unfolding IsStrictlySortedBy
 pin_count-some [] page ordered some = absurd (omega (arith, some))
 pin_count-some (e ∷ items) page ordered some =
     elim (nat_lt 0 (counted page e.1)) as (λ b. nat_lt 0 (counted page e.1) ≡ b → (n : ℕ) × (item : FrameItem) ×
-        (item_in (e ∷ items) n ≡ Some item) × (0 < counted page item)) [
+    (item_in (e ∷ items) n ≡ Some item) × (0 < counted page item)) [
       | true ↦ λ yes. let here : 0 < counted page e.1 =
-          grind (arith, nat_tests) in (e.0, e.1, ap (λ b. cond b (Some e.1) (item_in items e.0))
-          (is_at-eqb e.0 e.0 ∙ eq-eqb e.0 e.0 refl), here)
+          grind (arith, nat_tests) in (
+            e.0,
+            e.1,
+            ap (λ b. cond b (Some e.1) (item_in items e.0))
+                (is_at-eqb e.0 e.0 ∙ eq-eqb e.0 e.0 refl),
+            here,
+          )
       | false ↦ λ no.
           let none : counted page e.1 ≡ 0 = grind (arith, nat_tests) in
           let found = pin_count-some items page ordered.1 (omega (arith, some, none, pin_count-cons e items page)) in
-          let above = key-of (λ k. nat_cmp e.0 k ≡ Less) items found.0 found.1 ordered.0 found.2 in
-          (found.0, found.1, ap (λ b. cond b (Some e.1) (item_in items found.0)) (apart e.0 found.0 above) ∙
-              found.2, found.3)
+          let above = key-of (λ k. nat_cmp e.0 k ≡ Less) items found.0 found.1 ordered.0 found.2 in (
+            found.0,
+            found.1,
+            ap (λ b. cond b (Some e.1) (item_in items found.0)) (apart e.0 found.0 above) ∙ found.2,
+            found.3,
+          )
     ] refl
 
 -- an item counts a page at most twice
 counted-most : (item : FrameItem) (page : ℕ) → ascends item.pins.named ≡ true → ascends item.pins.missing ≡ true
     → counted page item ≤ 2
 counted-most item page named missing =
-    omega (arith, times-append item.pins.named (flagged item.pins.missing item.pins.flags) page,
-        times-ascending 0 item.pins.named page named, times-flagged item.pins.missing item.pins.flags page,
-        times-ascending 0 item.pins.missing page missing)
+    omega (
+      arith,
+      times-append item.pins.named (flagged item.pins.missing item.pins.flags) page,
+      times-ascending 0 item.pins.named page named,
+      times-flagged item.pins.missing item.pins.flags page,
+      times-ascending 0 item.pins.missing page missing,
+    )
 
 sum-most : (items : List (ℕ × FrameItem)) (page : ℕ) → IsStrictlySortedBy nat_cmp (keys_of items)
     → ((n : ℕ) (item : FrameItem) → item_in items n ≡ Some item → counted page item ≤ 2)
@@ -105,7 +116,7 @@ unfolding IsStrictlySortedBy
 sum-most [] page ordered few = omega arith
 sum-most (e ∷ items) page ordered few =
     let here =
-        few e.0 e.1 (ap (λ b. cond b (Some e.1) (item_in items e.0)) (is_at-eqb e.0 e.0 ∙ eq-eqb e.0 e.0 refl)) in
+    few e.0 e.1 (ap (λ b. cond b (Some e.1) (item_in items e.0)) (is_at-eqb e.0 e.0 ∙ eq-eqb e.0 e.0 refl)) in
     let rest = sum-most items page ordered.1 (λ n item at.
     let above = key-of (λ k. nat_cmp e.0 k ≡ Less) items n item ordered.0 at in
     few n item (ap (λ b. cond b (Some e.1) (item_in items n)) (apart e.0 n above) ∙ at)) in
@@ -117,7 +128,7 @@ pub pin_count-most : (resident : List Bool) (installed_at : ℕ → ℕ) (frames
     (page : ℕ) → AreFrames resident installed_at frames items → pin_count items page ≤ 2 * length items
 pin_count-most resident installed_at frames items page are =
     sum-most items page are.ordered (λ n item at. few (frame_at n frames) item
-        (subst (λ (o : Option FrameItem). IsItemOf resident installed_at (frame_at n frames) o) at (are.items n)))
+    (subst (λ (o : Option FrameItem). IsItemOf resident installed_at (frame_at n frames) o) at (are.items n)))
   where
     few : (f : Option Frame) (item : FrameItem) → IsItemOf resident installed_at f (Some item) → counted page item ≤ 2
     few None item is =
@@ -142,7 +153,7 @@ frame-of : (resident : List Bool) (installed_at : ℕ → ℕ) (frames : List Fr
     → HasFrame resident installed_at frames n item
 frame-of resident installed_at frames items n item are at some =
     pick (frame_at n frames) refl (subst (λ (o : Option FrameItem). IsItemOf resident installed_at
-        (frame_at n frames) o) at (are.items n))
+    (frame_at n frames) o) at (are.items n))
   where
     pick : (o : Option Frame) → frame_at n frames ≡ o → IsItemOf resident installed_at o (Some item)
         → HasFrame resident installed_at frames n item
@@ -179,15 +190,15 @@ is_pinned-counted s installed_at items latest page are is_latest resident = same
         (λ both.
         let parts = and-both (get_or s.resident page false) (is_in_snapshot item.0.snapshot (installed_at page)) both in
         or-right (nat_lt 0 (pin_count items page)) (is_in_snapshot latest (installed_at page))
-            (covered item.0.snapshot latest found.0 (ap snapshot_in item.1) is_latest parts.1))
+        (covered item.0.snapshot latest found.0 (ap snapshot_in item.1) is_latest parts.1))
         (or-cases (is_among (pinned_pages item.0.pins) page)
-            (get_or s.resident page false && is_in_snapshot item.0.snapshot (installed_at page))
-            (sym (item.2.pins page) ∙ found.3))
+        (get_or s.resident page false && is_in_snapshot item.0.snapshot (installed_at page))
+        (sym (item.2.pins page) ∙ found.3))
 
     shown : (n : ℕ) (f : Frame) (item : FrameItem) → frame_at n s.frames ≡ Some f
         → IsFrameItem s.resident installed_at f item
         → (is_among (pinned_pages item.pins) page ||
-            (get_or s.resident page false && is_in_snapshot item.snapshot (installed_at page))) ≡ true
+        (get_or s.resident page false && is_in_snapshot item.snapshot (installed_at page))) ≡ true
         → is_pinned s page ≡ true
     shown n f item at is h = any-found (pinned_by page) n s.frames f at (is.pins page ∙ h)
 
@@ -201,11 +212,11 @@ is_pinned-counted s installed_at items latest page are is_latest resident = same
         at_item (Some item) at is =
             let found = frame-of s.resident installed_at s.frames items top.0.0 item are at (λ none pins. cc) in
             let in_it : is_in_snapshot item.snapshot (installed_at page) ≡ true =
-                ap (λ c. is_in_snapshot c (installed_at page)) is ∙ h in
+            ap (λ c. is_in_snapshot c (installed_at page)) is ∙ h in
             shown top.0.0 found.0 item found.1 found.2
-                (or-right (is_among (pinned_pages item.pins) page)
-                (get_or s.resident page false && is_in_snapshot item.snapshot (installed_at page))
-                (ap (λ b. b && is_in_snapshot item.snapshot (installed_at page)) resident ∙ in_it))
+            (or-right (is_among (pinned_pages item.pins) page)
+            (get_or s.resident page false && is_in_snapshot item.snapshot (installed_at page))
+            (ap (λ b. b && is_in_snapshot item.snapshot (installed_at page)) resident ∙ in_it))
 
     back : (nat_lt 0 (pin_count items page) || is_in_snapshot latest (installed_at page)) ≡ true
         → is_pinned s page ≡ true
@@ -214,14 +225,14 @@ is_pinned-counted s installed_at items latest page are is_latest resident = same
         let some : 0 < pin_count items page = grind (arith, nat_tests) in
         let item = pin_count-some items page are.ordered some in
         let found =
-            frame-of s.resident installed_at s.frames items item.0 item.1 are item.2
-            (λ none pins. let zero_times : counted page item.1 ≡ 0 =
-            ap (λ (p : PinLists). times (pinned_pages p) page) pins in omega (arith, zero_times, item.3)) in
+        frame-of s.resident installed_at s.frames items item.0 item.1 are item.2
+        (λ none pins. let zero_times : counted page item.1 ≡ 0 =
+        ap (λ (p : PinLists). times (pinned_pages p) page) pins in omega (arith, zero_times, item.3)) in
         let pos : nat_lt 0 (counted page item.1) ≡ true = let more = item.3 in grind (arith, nat_tests) in
         shown item.0 found.0 item.1 found.1 found.2
-            (or-left (is_among (pinned_pages item.1.pins) page)
-            (get_or s.resident page false && is_in_snapshot item.1.snapshot (installed_at page))
-            (among-times (pinned_pages item.1.pins) page ∙ pos)))
+        (or-left (is_among (pinned_pages item.1.pins) page)
+        (get_or s.resident page false && is_in_snapshot item.1.snapshot (installed_at page))
+        (among-times (pinned_pages item.1.pins) page ∙ pos)))
         (λ covers. by_snapshot latest is_latest covers)
         (or-cases (nat_lt 0 (pin_count items page)) (is_in_snapshot latest (installed_at page)) h)
 
@@ -246,7 +257,7 @@ pub owns-item : (s : State) (installed_at : ℕ → ℕ) (items : List (ℕ × F
 owns-item s installed_at items by n are =
     any-numbered (λ f. f.owner == by) n s.frames are.distinct
     ∙ told s.resident installed_at (λ f. f.owner == by) (is_owned by) (frame_at n s.frames) (item_in items n)
-        (are.items n)
+    (are.items n)
     (λ f item is. sym (rw is.live (ap (λ owner. owner == by) is.owner)))
     refl
     (λ item is. rw is.ended refl)

@@ -1,8 +1,6 @@
 -- The first page that a search through the order of use finds comes first of all that pass.
-use Rattle.std.proofs.Common.{
-  ◌≡◌, ◌≢◌, ℕ, ◌<◌, ◌==◌, nat_lt, List, [], ◌∷◌, Bool, true, false, not, cond, ◌&&◌, inl, inr, ⊎_elim, Option, Some,
-  None, find, refl, sym, ap, ◌∙◌, subst, arith, eq-eqb,
-}
+use Rattle.std.proofs.Common.{◌≡◌, ◌≢◌, ℕ, ◌<◌, ◌==◌, nat_lt, List, [], ◌∷◌, Bool, true, false, not, cond, ◌&&◌, inl}
+use Rattle.std.proofs.Common.{inr, ⊎_elim, Option, Some, None, find, refl, sym, ap, ◌∙◌, subst, arith, eq-eqb}
 use Rattle.std.proofs.lemmas.Bool.{cases_eq}
 use Rattle.journal.specs.declared.layouts.Layout.{Layout}
 use Rattle.pool_rules.specs.Numbers.{is_among}

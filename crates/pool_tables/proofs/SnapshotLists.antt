@@ -1,15 +1,11 @@
 -- The list of snapshots: its last one is the latest, a stale last one can go, and a new one comes after all.
-use Rattle.std.proofs.Common.{
-  ◌≡◌, ℕ, zero, suc, ◌-◌, ◌<◌, ◌≤◌, ◌==◌, List, [], ◌∷◌, ◌++◌, Bool, true, false, cond, ◌&&◌, ⊎_elim, Option, Some,
-  None, length, take, refl, sym, ap, ◌∙◌, subst, arith, eq-eqb,
-}
+use Rattle.std.proofs.Common.{◌≡◌, ℕ, zero, suc, ◌-◌, ◌<◌, ◌≤◌, ◌==◌, List, [], ◌∷◌, ◌++◌, Bool, true, false, cond}
+use Rattle.std.proofs.Common.{◌&&◌, ⊎_elim, Option, Some, None, length, take, refl, sym, ap, ◌∙◌, subst, arith, eq-eqb}
 use Rattle.std.specs.List.{AllByRecursion, slice_get}
 use Rattle.pool_rules.proofs.Tests.{and-both, or-cases, or-left, or-right, same-eqb}
 use Rattle.std.specs.Option.{option_map}
-use Rattle.pool_tables.specs.FrameItems.{
-  IsLatest, PutsItem, asked_item, ended_item, installed_item, item_in, narrowed_item, pinned_item, settled_item,
-  snapshot_in,
-}
+use Rattle.pool_tables.specs.FrameItems.{IsLatest, PutsItem, asked_item, ended_item, installed_item, item_in}
+use Rattle.pool_tables.specs.FrameItems.{narrowed_item, pinned_item, settled_item, snapshot_in}
 use Rattle.pool_tables.specs.PinLists.{PinLists}
 use Rattle.pool_tables.specs.declared.page_record.MakerId.{MakerId}
 use Rattle.pool_tables.specs.Internal.SnapshotList.{AreAscending, AreListed, IsCurrent, IsSnapshotList, is_listed}
@@ -48,15 +44,15 @@ listed-last (x ∷ []) n c s up listed at =
     let same : x ≡ s = cc in
     ⊎_elim
     (λ here. let count = same-eqb x.count c (and-both (x.frame == n) (x.count == c) here).1 in let same_count : x.count
-        ≡ s.count = ap (λ (t : Snapshot). t.count) same in omega (arith, count, same_count))
+    ≡ s.count = ap (λ (t : Snapshot). t.count) same in omega (arith, count, same_count))
     (λ later. cc)
     (or-cases (is_of n c x) false listed)
 listed-last (x ∷ y ∷ rest) n c s up listed at =
     let at_rest = sym (last-cons x y rest) ∙ at in
     ⊎_elim
     (λ here. let count = same-eqb x.count c (and-both (x.frame == n) (x.count == c) here).1 in let less =
-        all-get (λ (t : Snapshot). x.count < t.count) (y ∷ rest) (length (y ∷ rest) - 1) s up.0 at_rest in omega
-        (arith, count, less))
+    all-get (λ (t : Snapshot). x.count < t.count) (y ∷ rest) (length (y ∷ rest) - 1) s up.0 at_rest in omega
+    (arith, count, less))
     (λ later. listed-last (y ∷ rest) n c s up.1 later at_rest)
     (or-cases (is_of n c x) (is_listed (y ∷ rest) n c) listed)
 
@@ -67,13 +63,13 @@ listed-front [] n c s listed at other = cc
 listed-front (x ∷ []) n c s listed at other =
     let same : x ≡ s = cc in
     ⊎_elim (λ here. let yes : is_of n c s ≡ true = subst (λ t. is_of n c t ≡ true) same here in cc) (λ later. cc)
-        (or-cases (is_of n c x) false listed)
+    (or-cases (is_of n c x) false listed)
 listed-front (x ∷ y ∷ rest) n c s listed at other =
     let before = take (length (y ∷ rest) - 1) (y ∷ rest) in
     let there : is_listed (x ∷ before) n c ≡ true = ⊎_elim
     (λ here. or-left (is_of n c x) (is_listed before n c) here)
     (λ later. or-right (is_of n c x) (is_listed before n c)
-        (listed-front (y ∷ rest) n c s later (sym (last-cons x y rest) ∙ at) other))
+    (listed-front (y ∷ rest) n c s later (sym (last-cons x y rest) ∙ at) other))
     (or-cases (is_of n c x) (is_listed (y ∷ rest) n c) listed) in
     ap (λ ys. is_listed ys n c) (front-cons x y rest) ∙ there
 
@@ -193,8 +189,8 @@ pub IsSnapshotList-push : (frame count : ℕ) (item : FrameItem) (old new : List
 IsSnapshotList-push frame count item old new xs puts has later list =
     let s : Snapshot = record { count = count; frame = frame } in
     let here : snapshot_in (item_in new frame) ≡ Some count =
-        ap snapshot_in (puts.items frame ∙ ap (λ b. cond b (Some item) (item_in old frame)) (eq-eqb frame frame refl)) ∙
-        has in
+    ap snapshot_in (puts.items frame ∙ ap (λ b. cond b (Some item) (item_in old frame)) (eq-eqb frame frame refl)) ∙
+    has in
     record {
       all = record {
         ascending =
@@ -212,15 +208,15 @@ IsSnapshotList-push frame count item old new xs puts has later list =
     pick n c true e at =
         let same = same-eqb frame n e in
         let is : snapshot_in (item_in new n) ≡ Some count =
-            ap snapshot_in (puts.items n ∙ ap (λ b. cond b (Some item) (item_in old n)) e) ∙ has in
+        ap snapshot_in (puts.items n ∙ ap (λ b. cond b (Some item) (item_in old n)) e) ∙ has in
         let same_count : count ≡ c = cc in
         let new_one = listed-new xs (record { count = count; frame = frame }) in
         subst (λ m. is_listed (xs ++ record { count = count; frame = frame } ∷ []) m c ≡ true) same
-            (subst (λ k. is_listed (xs ++ record { count = count; frame = frame } ∷ []) frame k ≡ true) same_count
-            new_one)
+        (subst (λ k. is_listed (xs ++ record { count = count; frame = frame } ∷ []) frame k ≡ true) same_count
+        new_one)
     pick n c false e at =
         let was : snapshot_in (item_in old n) ≡ Some c =
-            sym (ap snapshot_in (puts.items n ∙ ap (λ b. cond b (Some item) (item_in old n)) e)) ∙ at in
+        sym (ap snapshot_in (puts.items n ∙ ap (λ b. cond b (Some item) (item_in old n)) e)) ∙ at in
         listed-push xs (record { count = count; frame = frame }) n c (list.all.listed n c was)
 
 -- the last one is the latest

@@ -1,9 +1,7 @@
 -- What a change of one frame's item does to the counts that tell which wants are over, and to the wants that its
 -- frame waits by.
-use Rattle.std.proofs.Common.{
-  ◌≡◌, ◌≢◌, ℕ, ◌+◌, ◌≤◌, ◌==◌, nat_le, List, [], ◌∷◌, true, not, cond, ◌&&◌, ⊎_elim, Option, Some, None, refl, sym, ap,
-  ◌∙◌, subst, arith, eq-eqb,
-}
+use Rattle.std.proofs.Common.{◌≡◌, ◌≢◌, ℕ, ◌+◌, ◌≤◌, ◌==◌, nat_le, List, [], ◌∷◌, true, not, cond, ◌&&◌, ⊎_elim, Option}
+use Rattle.std.proofs.Common.{Some, None, refl, sym, ap, ◌∙◌, subst, arith, eq-eqb}
 use Rattle.std.proofs.lemmas.Bool.{cases_eq}
 use Rattle.std.proofs.lemmas.Bool.Decides.{nat_tests}
 use Rattle.std.specs.List.{AllByRecursion}
@@ -40,7 +38,7 @@ item-kept : {X : Type 0} (part : Option FrameItem → X) (frame : ℕ) (item : O
     → part (item_in new n) ≡ part (item_in old n)
 item-kept part frame item old new puts kept n = ⊎_elim
     (λ same. ap (λ m. part (item_in new m)) same ∙
-        (ap part (item-own frame item old new puts) ∙ (kept ∙ ap (λ m. part (item_in old m)) (sym same))))
+    (ap part (item-own frame item old new puts) ∙ (kept ∙ ap (λ m. part (item_in old m)) (sym same))))
     (λ other. ap part (item-other frame item old new n other puts))
     (cases_eq n frame)
 
@@ -123,11 +121,11 @@ IsTimelyTable-put entries old new frame item timely puts here last = record {
 pub IsWaited-put : (frame : ℕ) (item : Option FrameItem) (old new : FrameItems) (w : QueuedWant)
     → PutsItem frame item old.items new.items → IsWaited old w
     → (w.frame.0 ≡ frame → (i : FrameItem) → item ≡ Some i → i.ended_at ≡ None → w.settled ≡ true →
-        w.made_at ≡ i.asked_at → is_among i.pins.missing w.page ≡ true)
+    w.made_at ≡ i.asked_at → is_among i.pins.missing w.page ≡ true)
     → IsWaited new w
 IsWaited-put frame item old new w puts was own = λ i at live settled made. ⊎_elim
     (λ same. own same i (sym (ap (item_of new) same ∙ item-own frame item old.items new.items puts) ∙ at) live settled
-        made)
+    made)
     (λ other. was i (sym (item-other frame item old.items new.items w.frame.0 other puts) ∙ at) live settled made)
     (cases_eq w.frame.0 frame)
 
@@ -150,13 +148,13 @@ waits-missing entries records table (w ∷ list) n page item timely waited at li
     let at_own : item_of table w.frame.0 ≡ Some item = ap (item_of table) frame ∙ at in
     let asked : asked_in (item_of table w.frame.0) ≡ item.asked_at = ap asked_in at_own in
     let not_before : item.asked_at ≤ w.made_at =
-        below (counts.load_ended_at w.page) (asked_in (item_of table w.frame.0)) w.made_at item.asked_at
-        (ended_in (item_of table w.frame.0)) table.last_asked asked inner.0 in
+    below (counts.load_ended_at w.page) (asked_in (item_of table w.frame.0)) w.made_at item.asked_at
+    (ended_in (item_of table w.frame.0)) table.last_asked asked inner.0 in
     let made : w.made_at ≡ item.asked_at = omega (arith, timely.0.asked, asked, not_before) in
     subst (λ p. is_among item.pins.missing p ≡ true) same_page (waited.0 item at_own live of_page.1 made))
     (λ later. waits-missing entries records table list n page item timely.1 waited.1 at live later)
     (or-cases (is_waiting counts page w && (w.frame.0 == n)) (waits_for (standing counts list) n page)
-        (sym (waits-cons counts w list n page) ∙ waits))
+    (sym (waits-cons counts w list n page) ∙ waits))
   where
     below : (load asked made at : ℕ) (ended : Option ℕ) (last : ℕ) → asked ≡ at
         → (nat_le load made && (nat_le asked made && not (is_before ended last))) ≡ true → at ≤ made

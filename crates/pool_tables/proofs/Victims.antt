@@ -1,8 +1,6 @@
 -- The page that the table finds to evict is the victim of the rules, where records and pins agree with the state.
-use Rattle.std.proofs.Common.{
-  ◌≡◌, ℕ, ◌+◌, ◌-◌, ◌<◌, ◌≤◌, ◌==◌, nat_lt, List, [], Bool, true, false, not, ◌||◌, ◌&&◌, inl, inr, ⊎_elim, Option,
-  Some, None, get_or, length, refl, sym, ap, ◌∙◌, arith,
-}
+use Rattle.std.proofs.Common.{◌≡◌, ℕ, ◌+◌, ◌-◌, ◌<◌, ◌≤◌, ◌==◌, nat_lt, List, [], Bool, true, false, not, ◌||◌, ◌&&◌}
+use Rattle.std.proofs.Common.{inl, inr, ⊎_elim, Option, Some, None, get_or, length, refl, sym, ap, ◌∙◌, arith}
 use Rattle.std.specs.List.{list_any, range_with_len}
 use Rattle.std.proofs.lemmas.Bool.Decides.{nat_tests, Decides-ltb}
 use Rattle.journal.specs.declared.layouts.Layout.{Layout}

@@ -1,14 +1,12 @@
 -- Each event keeps each want that a Settle made one of a missing page of its frame.
-use Rattle.std.proofs.Common.{
-  ◌≡◌, ℕ, ◌<◌, ◌==◌, List, [], ◌∷◌, Bool, true, false, cond, Option, Some, None, map, refl, sym, ap, ◌∙◌, arith, eq-eqb,
-}
+use Rattle.std.proofs.Common.{◌≡◌, ℕ, ◌<◌, ◌==◌, List, [], ◌∷◌, Bool, true, false, cond, Option, Some, None, map, refl}
+use Rattle.std.proofs.Common.{sym, ap, ◌∙◌, arith, eq-eqb}
 use Rattle.std.specs.List.{AllByRecursion}
 use Rattle.std.specs.Option.{option_map}
 use Rattle.pool_rules.specs.Numbers.{is_among}
 use Rattle.pool_rules.proofs.Tests.{or-left, or-right}
-use Rattle.pool_tables.specs.FrameItems.{
-  FrameItems, PutsItem, asked_item, ended_item, installed_item, item_of, narrowed_item, pinned_item, settled_item,
-}
+use Rattle.pool_tables.specs.FrameItems.{FrameItems, PutsItem, asked_item, ended_item, installed_item, item_of}
+use Rattle.pool_tables.specs.FrameItems.{narrowed_item, pinned_item, settled_item}
 use Rattle.pool_tables.specs.PinLists.{PinLists, settled_pins}
 use Rattle.pool_tables.specs.WantMeaning.{IsWaited}
 use Rattle.pool_tables.specs.WantQueue.{of_page}
@@ -21,7 +19,7 @@ use Rattle.pool_tables.proofs.TableCounts.{IsWaited-put, item-own}
 abbrev WaitsIn : QueuedWant → Option FrameItem → Type 0
 WaitsIn w item =
     (i : FrameItem) → item ≡ Some i → i.ended_at ≡ None → w.settled ≡ true → w.made_at ≡ i.asked_at →
-        is_among i.pins.missing w.page ≡ true
+    is_among i.pins.missing w.page ≡ true
 
 -- an item with the same ends, asks and missing pages
 alike : (w : QueuedWant) (change : FrameItem → FrameItem) (o : Option FrameItem)
@@ -34,14 +32,14 @@ alike w change (Some j) ended asked missing was = λ i at live settled made.
     let asked_i : (change j).asked_at ≡ i.asked_at = ap (λ (x : FrameItem). x.asked_at) is in
     let missing_i : (change j).pins.missing ≡ i.pins.missing = ap (λ (x : FrameItem). x.pins.missing) is in
     ap (λ ps. is_among ps w.page) (sym missing_i ∙ missing j) ∙
-        was j refl (sym (ended j) ∙ (ended_i ∙ live)) settled (made ∙ (sym asked_i ∙ asked j))
+    was j refl (sym (ended j) ∙ (ended_i ∙ live)) settled (made ∙ (sym asked_i ∙ asked j))
 
 pub IsWaited-pinned : (frame : ℕ) (by : MakerId) (count : ℕ) (old new : FrameItems) (w : QueuedWant) → 0 < w.made_at
     → PutsItem frame (Some (pinned_item by count (item_of old frame))) old.items new.items → IsWaited old w
     → IsWaited new w
 IsWaited-pinned frame by count old new w some puts was =
     IsWaited-put frame (Some (pinned_item by count (item_of old frame))) old new w puts was
-        (λ same. pinned (item_of old frame) (λ i at. was i (ap (item_of old) same ∙ at)))
+    (λ same. pinned (item_of old frame) (λ i at. was i (ap (item_of old) same ∙ at)))
   where
     pinned : (o : Option FrameItem) → WaitsIn w o → WaitsIn w (Some (pinned_item by count o))
     pinned None before = λ i at live settled made.
@@ -57,14 +55,14 @@ pub IsWaited-narrowed : (frame : ℕ) (by : MakerId) (pages : List ℕ) (old new
 IsWaited-narrowed frame by pages old new w puts was =
     IsWaited-put frame (option_map (narrowed_item by pages) (item_of old frame)) old new w puts was
     (λ same. alike w (narrowed_item by pages) (item_of old frame) (λ x. refl) (λ x. refl) (λ x. refl)
-        (λ i at. was i (ap (item_of old) same ∙ at)))
+    (λ i at. was i (ap (item_of old) same ∙ at)))
 
 pub IsWaited-ended : (frame count : ℕ) (old new : FrameItems) (w : QueuedWant)
     → PutsItem frame (option_map (ended_item count) (item_of old frame)) old.items new.items → IsWaited old w
     → IsWaited new w
 IsWaited-ended frame count old new w puts was =
     IsWaited-put frame (option_map (ended_item count) (item_of old frame)) old new w puts was
-        (λ same. ended (item_of old frame))
+    (λ same. ended (item_of old frame))
   where
     ended : (o : Option FrameItem) → WaitsIn w (option_map (ended_item count) o)
     ended None = λ i at live settled made. cc
@@ -90,7 +88,7 @@ pub IsWaited-settled : (frame : ℕ) (by : MakerId) (count : ℕ) (pins : PinLis
 IsWaited-settled frame by count pins old new w before puts was =
     IsWaited-put frame (option_map (settled_item by count pins) (item_of old frame)) old new w puts was
     (λ same. earlier count (option_map (settled_item by count pins) (item_of old frame)) w before
-        (asked (item_of old frame)))
+    (asked (item_of old frame)))
   where
     asked : (o : Option FrameItem) → IsEarlier count (option_map (settled_item by count pins) o) w
     asked None = λ i at. cc
@@ -124,12 +122,12 @@ pub IsWaited-new : (frame : ℕ) (by : MakerId) (count : ℕ) (pages missing : L
     (like : QueuedWant)
     → like.frame.0 ≡ frame
     → PutsItem frame (option_map (settled_item by count (settled_pins pages missing)) (item_of old frame)) old.items
-        new.items
+    new.items
     → (page : ℕ) → is_among missing page ≡ true → IsWaited new (of_page like page)
 IsWaited-new frame by count pages missing old new like is puts page among = λ i at live settled made.
     settled_one (item_of old frame) i (sym (ap (item_of new) is ∙
-        item-own frame (option_map (settled_item by count (settled_pins pages missing)) (item_of old frame)) old.items
-        new.items puts) ∙ at)
+    item-own frame (option_map (settled_item by count (settled_pins pages missing)) (item_of old frame)) old.items
+    new.items puts) ∙ at)
   where
     settled_one : (o : Option FrameItem) (i : FrameItem)
         → option_map (settled_item by count (settled_pins pages missing)) o ≡ Some i
@@ -143,9 +141,10 @@ pub all-of_pages : (P : QueuedWant → Type 0) (like : QueuedWant) (pages : List
     → ((page : ℕ) → is_among pages page ≡ true → P (of_page like page))
     → AllByRecursion P (map (of_page like) pages)
 all-of_pages P like [] each = tt
-all-of_pages P like (p ∷ pages) each =
-    (each p (or-left (p == p) (is_among pages p) (eq-eqb p p refl)),
-        all-of_pages P like pages (λ q among. each q (or-right (p == q) (is_among pages q) among)))
+all-of_pages P like (p ∷ pages) each = (
+  each p (or-left (p == p) (is_among pages p) (eq-eqb p p refl)),
+  all-of_pages P like pages (λ q among. each q (or-right (p == q) (is_among pages q) among)),
+)
 
 -- the wants that an Ask makes are waited for by none
 pub IsWaited-new_ask : (frames : FrameItems) (like : QueuedWant) (page : ℕ) → like.settled ≡ false

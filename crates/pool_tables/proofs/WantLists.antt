@@ -1,8 +1,7 @@
 -- Lists of wants: what is left of them, and what a search through them finds.
-use Rattle.std.proofs.Common.{
-  ◌≡◌, ℕ, List, [], ◌∷◌, ◌++◌, Bool, true, false, cond, ◌&&◌, ◌||◌, Option, Some, filter, find, map, refl, sym, ap, ◌∙◌,
-  suc, ◌+◌, ◌/◌, ◌<◌, ◌≤◌, ◌==◌, nat_le, drop, get_or, length, arith,
-}
+use Rattle.std.proofs.Common.{◌≡◌, ℕ, List, [], ◌∷◌, ◌++◌, Bool, true, false, cond, ◌&&◌, ◌||◌, Option, Some, filter}
+use Rattle.std.proofs.Common.{find, map, refl, sym, ap, ◌∙◌, suc, ◌+◌, ◌/◌, ◌<◌, ◌≤◌, ◌==◌, nat_le, drop, get_or}
+use Rattle.std.proofs.Common.{length, arith}
 use Rattle.std.proofs.Math.Seq.{drop-cons}
 use Rattle.std.proofs.lemmas.Bool.Decides.{nat_tests}
 use Rattle.std.specs.List.{AllByRecursion, count_by}
@@ -29,14 +28,14 @@ pub all-filter : (P : QueuedWant → Type 0) (test : QueuedWant → Bool) (ws : 
 all-filter P test [] all = tt
 all-filter P test (w ∷ ws) all =
     elim (test w) as (λ b. AllByRecursion P (cond b (w ∷ filter test ws) (filter test ws)))
-        [ true ↦ (all.0, all-filter P test ws all.1) | false ↦ all-filter P test ws all.1 ]
+    [ true ↦ (all.0, all-filter P test ws all.1) | false ↦ all-filter P test ws all.1 ]
 
 pub all-closed_up : (P : QueuedWant → Type 0) (counts : WantCounts) (ws : List QueuedWant) → AllByRecursion P ws
     → AllByRecursion P (closed_up counts ws)
 all-closed_up P counts ws all =
     elim (nat_le (count_by (stands counts) ws) (length ws / 2)) as
-        (λ b. AllByRecursion P (cond b (filter (stands counts) ws) ws))
-        [ true ↦ all-filter P (stands counts) ws all | false ↦ all ]
+    (λ b. AllByRecursion P (cond b (filter (stands counts) ws) ws))
+    [ true ↦ all-filter P (stands counts) ws all | false ↦ all ]
 
 -- ---- filters
 
@@ -54,21 +53,24 @@ pub filter-narrower : (p q : QueuedWant → Bool) (r : Want → Bool) (ws : List
 filter-narrower p q r [] all = refl
 filter-narrower p q r (w ∷ ws) all =
     ap (λ b. map want_of (cond b (w ∷ filter q ws) (filter q ws))) all.0 ∙
-        narrower-step w (filter q ws) (filter p ws) r (p w) (r (want_of w)) refl (filter-narrower p q r ws all.1)
+    narrower-step w (filter q ws) (filter p ws) r (p w) (r (want_of w)) refl (filter-narrower p q r ws all.1)
 
 pub filter-alike : (p q : QueuedWant → Bool) (ws : List QueuedWant) → AllByRecursion (λ w. q w ≡ p w) ws
     → filter q ws ≡ filter p ws
 filter-alike p q [] all = refl
 filter-alike p q (w ∷ ws) all =
     ap (λ b. cond b (w ∷ filter q ws) (filter q ws)) all.0 ∙
-        ap (λ vs. cond (p w) (w ∷ vs) vs) (filter-alike p q ws all.1)
+    ap (λ vs. cond (p w) (w ∷ vs) vs) (filter-alike p q ws all.1)
 
 pub filter-joined : (p : QueuedWant → Bool) (vs ws : List QueuedWant) → filter p (vs ++ ws) ≡ filter p vs ++ filter p ws
 filter-joined p [] ws = refl
 filter-joined p (v ∷ vs) ws =
     elim (p v) as (λ b. cond b (v ∷ filter p (vs ++ ws)) (filter p (vs ++ ws)) ≡ cond b (v ∷ filter p vs)
-        (filter p vs) ++ filter p ws) [ true ↦ ap (λ us. v ∷ us) (filter-joined p vs ws) | false ↦
-        filter-joined p vs ws ]
+    (filter p vs) ++ filter p ws) [
+      | true ↦ ap (λ us. v ∷ us) (filter-joined p vs ws)
+      | false ↦
+          filter-joined p vs ws
+    ]
 
 pub map-joined : (vs ws : List QueuedWant) → map want_of (vs ++ ws) ≡ map want_of vs ++ map want_of ws
 map-joined [] ws = refl
@@ -78,16 +80,16 @@ filter-twice : (p : QueuedWant → Bool) (ws : List QueuedWant) → filter p (fi
 filter-twice p [] = refl
 filter-twice p (w ∷ ws) =
     elim (p w) as (λ b. p w ≡ b → filter p (cond b (w ∷ filter p ws) (filter p ws)) ≡ cond b (w ∷ filter p ws)
-        (filter p ws)) [ true ↦ λ e. rw e (ap (λ us. w ∷ us) (filter-twice p ws)) | false ↦ λ e. filter-twice p ws ]
-        refl
+    (filter p ws)) [ true ↦ λ e. rw e (ap (λ us. w ∷ us) (filter-twice p ws)) | false ↦ λ e. filter-twice p ws ]
+    refl
 
 -- to close the list up changes no want that stands
 pub standing-closed_up : (counts : WantCounts) (ws : List QueuedWant)
     → standing counts (closed_up counts ws) ≡ standing counts ws
 standing-closed_up counts ws =
     elim (nat_le (count_by (stands counts) ws) (length ws / 2)) as
-        (λ b. map want_of (filter (stands counts) (cond b (filter (stands counts) ws) ws)) ≡ standing counts ws)
-        [ true ↦ ap (map want_of) (filter-twice (stands counts) ws) | false ↦ refl ]
+    (λ b. map want_of (filter (stands counts) (cond b (filter (stands counts) ws) ws)) ≡ standing counts ws)
+    [ true ↦ ap (map want_of) (filter-twice (stands counts) ws) | false ↦ refl ]
 
 -- ---- searches
 
@@ -96,8 +98,8 @@ pub find-pass : (counts : WantCounts) (test : Want → Bool) (w : QueuedWant) (w
     → find test (standing counts (w ∷ ws)) ≡ find test (standing counts ws)
 find-pass counts test w ws fails =
     elim (stands counts w) as (λ b. (test (want_of w) && b) ≡ false →
-        find test (map want_of (cond b (w ∷ filter (stands counts) ws) (filter (stands counts) ws))) ≡ find test
-        (standing counts ws)) [
+    find test (map want_of (cond b (w ∷ filter (stands counts) ws) (filter (stands counts) ws))) ≡ find test
+    (standing counts ws)) [
       | true ↦ λ h. let no : test (want_of w) ≡ false = first (test (want_of w)) h in rw no refl
       | false ↦ λ h. refl
     ] fails
@@ -124,7 +126,7 @@ pub find-next : (counts : WantCounts) (test : Want → Bool) (ws : List QueuedWa
     → find test (standing counts (drop k ws)) ≡ found → find test (standing counts (drop (k + 1) ws)) ≡ found
 find-next counts test ws k none found within fails before =
     sym (find-pass counts test (get_or ws k none) (drop (k + 1) ws) fails) ∙
-        (ap (λ vs. find test (standing counts vs)) (sym (from-place ws k none within)) ∙ before)
+    (ap (λ vs. find test (standing counts vs)) (sym (from-place ws k none within)) ∙ before)
 
 -- and ends at one that passes
 pub find-found : (counts : WantCounts) (test : Want → Bool) (ws : List QueuedWant) (k : ℕ) (none : QueuedWant)
@@ -134,18 +136,18 @@ pub find-found : (counts : WantCounts) (test : Want → Bool) (ws : List QueuedW
 find-found counts test ws k none found within passes before =
     let parts = and-both (test (want_of (get_or ws k none))) (stands counts (get_or ws k none)) passes in
     sym (find-here counts test (get_or ws k none) (drop (k + 1) ws) parts.0 parts.1) ∙
-        (ap (λ vs. find test (standing counts vs)) (sym (from-place ws k none within)) ∙ before)
+    (ap (λ vs. find test (standing counts vs)) (sym (from-place ws k none within)) ∙ before)
 
 -- ---- who waits for a page
 
 -- the frame waits by the first want, or by a later one
 pub waits-cons : (counts : WantCounts) (w : QueuedWant) (ws : List QueuedWant) (n page : ℕ)
     → waits_for (standing counts (w ∷ ws)) n page ≡
-        ((is_waiting counts page w && (w.frame.0 == n)) || waits_for (standing counts ws) n page)
+    ((is_waiting counts page w && (w.frame.0 == n)) || waits_for (standing counts ws) n page)
 waits-cons counts w ws n page =
     elim (stands counts w) as (λ b. waits_for
-        (map want_of (cond b (w ∷ filter (stands counts) ws) (filter (stands counts) ws))) n page ≡
-        (((b && ((w.page == page) && w.settled)) && (w.frame.0 == n)) || waits_for (standing counts ws) n page)) [
+    (map want_of (cond b (w ∷ filter (stands counts) ws) (filter (stands counts) ws))) n page ≡
+    (((b && ((w.page == page) && w.settled)) && (w.frame.0 == n)) || waits_for (standing counts ws) n page)) [
       | true ↦ ap (λ b. b || waits_for (standing counts ws) n page)
           (swap (w.frame.0 == n) ((w.page == page) && w.settled))
       | false ↦ refl

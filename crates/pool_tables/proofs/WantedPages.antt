@@ -1,7 +1,6 @@
 -- After every legal journal each page that may be taken is one of the layout.
-use Rattle.std.proofs.Common.{
-  ◌≡◌, ℕ, suc, ◌<◌, nat_lt, List, [], ◌∷◌, Bool, true, false, cond, Option, Some, None, find, refl, subst, arith,
-}
+use Rattle.std.proofs.Common.{◌≡◌, ℕ, suc, ◌<◌, nat_lt, List, [], ◌∷◌, Bool, true, false, cond, Option, Some, None}
+use Rattle.std.proofs.Common.{find, refl, subst, arith}
 use Rattle.std.specs.List.{All}
 use Rattle.std.proofs.lemmas.Bool.Decides.{Decides-ltb}
 use Rattle.journal.specs.declared.entries.Entry.{Entry}

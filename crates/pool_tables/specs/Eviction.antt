@@ -1,7 +1,6 @@
 -- Which of the pages that may be evicted is evicted first.
-use Rattle.std.specs.Prelude.{
-  ◌≡◌, ◌≢◌, ◌==◌, ◌<◌, ◌&&◌, ◌⊎◌, ℕ, Bool, true, false, not, nat_lt, nat_le, List, Option, None, Some,
-}
+use Rattle.std.specs.Prelude.{◌≡◌, ◌≢◌, ◌==◌, ◌<◌, ◌&&◌, ◌⊎◌, ℕ, Bool, true, false, not, nat_lt, nat_le, List, Option}
+use Rattle.std.specs.Prelude.{None, Some}
 use Rattle.pool_rules.specs.Numbers.{is_among}
 use Rattle.pool_tables.specs.PageRecords.{PageRecords, record_at}
 use Rattle.pool_tables.specs.declared.page_record.PageRecord.{PageRecord}

@@ -1,8 +1,6 @@
 -- When the table of frames says what the state says of its live frames.
-use Rattle.std.specs.Prelude.{
-  ◌≡◌, ◌==◌, ◌&&◌, ◌||◌, ◌≤◌, ℕ, Bool, true, false, List, [], ◌∷◌, length, find, Option, None, Some, is_some,
-  slice_index_or,
-}
+use Rattle.std.specs.Prelude.{◌≡◌, ◌==◌, ◌&&◌, ◌||◌, ◌≤◌, ℕ, Bool, true, false, List, [], ◌∷◌, length, find, Option}
+use Rattle.std.specs.Prelude.{None, Some, is_some, slice_index_or}
 use Rattle.std.specs.List.{list_any}
 use Rattle.std.specs.List.Sorted.{IsStrictlySortedBy}
 use Rattle.std.specs.Map.{keys_of}

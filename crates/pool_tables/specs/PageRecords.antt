@@ -1,7 +1,6 @@
 -- What a contract sees of the table of pages: a record by page.
-use Rattle.std.specs.Prelude.{
-  ◌≡◌, ◌<◌, ◌⊎◌, ℕ, Bool, false, nat_lt, List, length, map, filter, None, is_some, ◌||◌, slice_index_or, slice_set,
-}
+use Rattle.std.specs.Prelude.{◌≡◌, ◌<◌, ◌⊎◌, ℕ, Bool, false, nat_lt, List, length, map, filter, None, is_some, ◌||◌}
+use Rattle.std.specs.Prelude.{slice_index_or, slice_set}
 use Rattle.std.specs.List.{range_with_len}
 use Rattle.pool_tables.specs.declared.page_record.PageRecord.{PageRecord}
 

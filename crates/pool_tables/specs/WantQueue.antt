@@ -1,8 +1,6 @@
 -- What a contract sees of the list of wants, and which of them are over.
-use Rattle.std.specs.Prelude.{
-  ◌==◌, ◌&&◌, ◌/◌, ℕ, Bool, false, not, List, length, map, filter, count_by, nat_le, nat_lt, Option, None, Some,
-  is_some, if◌then◌else◌,
-}
+use Rattle.std.specs.Prelude.{◌==◌, ◌&&◌, ◌/◌, ℕ, Bool, false, not, List, length, map, filter, count_by, nat_le, nat_lt}
+use Rattle.std.specs.Prelude.{Option, None, Some, is_some, if◌then◌else◌}
 use Rattle.std.specs.List.{list_all}
 use Rattle.journal.specs.declared.layouts.Layout.{Layout}
 use Rattle.journal.specs.Layout.{uppers_of}

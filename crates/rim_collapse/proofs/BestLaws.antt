@@ -1,8 +1,6 @@
 -- The least legal collapse of a point: what it depends on, and how it is found.
-use Rattle.std.proofs.Common.{
-  ◌≡◌, ◌⊎◌, inl, inr, ℕ, ◌+◌, ◌<◌, Bool, true, false, not, ◌||◌, List, [], ◌∷◌, map, take, length, get_or, All,
-  Ordering, Option, Some, None, sum_by, refl, sym, ap, ◌∙◌,
-}
+use Rattle.std.proofs.Common.{◌≡◌, ◌⊎◌, inl, inr, ℕ, ◌+◌, ◌<◌, Bool, true, false, not, ◌||◌, List, [], ◌∷◌, map, take}
+use Rattle.std.proofs.Common.{length, get_or, All, Ordering, Option, Some, None, sum_by, refl, sym, ap, ◌∙◌}
 use Rattle.std.specs.List.{list_all, list_any}
 use Rattle.std.specs.Ordering.{is_lt}
 use Rattle.std.specs.declared.cmp.Ordering.TheVariants.{Less, Equal, Greater}
@@ -109,7 +107,7 @@ before-all k l m first not_less =
     elim (cases_Bool (is_lt (key_cmp m k))) [
       | inl less ↦ absurd (clash (is_lt (key_cmp m l))
           (ap is_lt (key_cmp-total.trans m k l (less_from (key_cmp m k) less) (less_from (key_cmp k l) first)))
-              not_less)
+          not_less)
       | inr less_not ↦ less_not
     ]
   where
@@ -254,7 +252,7 @@ pub least-all : (tris : List Tri) (a : Pt) (best : Option Key) →
 least-all tris a best least =
     best-alike (around a tris) tris a (λ q. true) best (around-twice a tris)
     (best-fewer (around a tris) a (λ q. list_any (λ f. has_corner q f.tri) (map facet_of (around a tris)))
-        (λ q. true) best
+    (λ q. true) best
     (λ q opens all. from_edge q (around a tris) (and_parts (has_edge (around a tris) a q) _ opens).0)
     (rw (tris_in-facets (around a tris)) at least))
   where

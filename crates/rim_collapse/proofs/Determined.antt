@@ -1,7 +1,6 @@
 -- A list has at most one least legal collapse, and is simplified to at most one state.
-use Rattle.std.proofs.Common.{
-  ◌≡◌, inl, inr, ℕ, false, List, [], ◌∷◌, length, Ordering, refl, sym, ap, ◌∙◌, subst, arith,
-}
+use Rattle.std.proofs.Common.{◌≡◌, inl, inr, ℕ, false, List, [], ◌∷◌, length, Ordering, refl, sym, ap, ◌∙◌, subst}
+use Rattle.std.proofs.Common.{arith}
 use Rattle.std.proofs.lemmas.Cmp.{nat_cmp_total, on_total, then_total}
 use Rattle.std.specs.Cmp.{IsTotalOrder}
 use Rattle.std.specs.Ordering.{is_eq, is_lt, ordering_reverse, ordering_then}
@@ -90,4 +89,4 @@ pub one_simplification : (tris : List Tagged) (locked : List Pt) (kept others : 
     IsSimplified tris locked kept → IsSimplified tris locked others → kept ≡ others
 one_simplification tris locked kept others one other =
     one_end locked (length tris) one.collapses other.collapses
-        (begun tris) kept others one.lead other.lead one.end other.end
+    (begun tris) kept others one.lead other.lead one.end other.end

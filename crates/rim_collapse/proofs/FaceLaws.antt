@@ -1,8 +1,7 @@
 -- Faces are triangles: what holds of numbers holds of the points that they stand for.
-use Rattle.std.proofs.Common.{
-  ◌≡◌, inl, inr, ℕ, zero, suc, ◌+◌, ◌<◌, Bool, true, false, List, [], ◌∷◌, ◌++◌, Result, Ok, Err, take, length, get_or,
-  if◌then◌else◌, All, AllPairs, Contains, refl, sym, ap, ◌∙◌, arith,
-}
+use Rattle.std.proofs.Common.{◌≡◌, inl, inr, ℕ, zero, suc, ◌+◌, ◌<◌, Bool, true, false, List, [], ◌∷◌, ◌++◌, Result, Ok}
+use Rattle.std.proofs.Common.{Err, take, length, get_or, if◌then◌else◌, All, AllPairs, Contains, refl, sym, ap, ◌∙◌}
+use Rattle.std.proofs.Common.{arith}
 use Rattle.std.specs.Bool.{◌==◌}
 use Rattle.std.specs.Ordering.{is_eq}
 use Rattle.std.specs.declared.cmp.Ordering.TheVariants.{Less}
@@ -28,10 +27,9 @@ use Rattle.rim_collapse.specs.declared.faces.Face.{Face}
 use Rattle.rim_collapse.specs.declared.states.Kept.{Kept}
 use Rattle.rim_collapse.specs.States.{after, begun, present}
 use Rattle.rim_collapse.proofs.Following.{present-begun}
-use Rattle.rim_collapse.specs.Internal.Faces.{
-  IsNumbered, face_to, faces_after, has_distinct_numbers, has_number, kept_at, no_triangle, origin, point_at,
-  renumbered, state_of, tagged_at, tri_at, tris_at,
-}
+use Rattle.rim_collapse.specs.Internal.Faces.{IsNumbered, face_to, faces_after, has_distinct_numbers, has_number}
+use Rattle.rim_collapse.specs.Internal.Faces.{kept_at, no_triangle, origin, point_at, renumbered, state_of, tagged_at}
+use Rattle.rim_collapse.specs.Internal.Faces.{tri_at, tris_at}
 
 abbrev pub IsAscending : List Pt → Type 0
 IsAscending points = AllPairs (λ p q. point_cmp p q ≡ Less) points

@@ -1,8 +1,7 @@
 -- The triangles round the point that may move: what their listing, cost and legality are in terms of the whole list.
-use Rattle.std.proofs.Common.{
-  ◌≡◌, inl, inr, ℕ, ◌+◌, ◌*◌, ◌^◌, ◌<◌, ◌≤◌, Bool, true, false, not, ◌&&◌, ◌||◌, cond, ℤ, pos, unsigned_abs, to_z, of_z,
-  List, [], ◌∷◌, ◌++◌, map, filter, take, length, get_or, refl, sym, ap, ◌∙◌, subst, arith,
-}
+use Rattle.std.proofs.Common.{◌≡◌, inl, inr, ℕ, ◌+◌, ◌*◌, ◌^◌, ◌<◌, ◌≤◌, Bool, true, false, not, ◌&&◌, ◌||◌, cond, ℤ}
+use Rattle.std.proofs.Common.{pos, unsigned_abs, to_z, of_z, List, [], ◌∷◌, ◌++◌, map, filter, take, length, get_or}
+use Rattle.std.proofs.Common.{refl, sym, ap, ◌∙◌, subst, arith}
 use Rattle.std.specs.Int.{w128}
 use Rattle.std.specs.Prelude.{int_le}
 use Rattle.std.proofs.lemmas.Bool.{and_parts, and_from}
@@ -13,9 +12,8 @@ use Rattle.geom_core.specs.declared.points.Pt.{Pt}
 use Rattle.geom_core.specs.declared.triangles.Tri.{Tri}
 use Rattle.geom_core.specs.Collapses.{replaced_point, replaced}
 use Rattle.geom_core.specs.Corners.{has_corner}
-use Rattle.geom_core.specs.Limits.{
-  IsGridPoint, is_grid_point, HasGridCorners, has_grid_corners, has_distinct_corners, IsGridTriangle,
-}
+use Rattle.geom_core.specs.Limits.{IsGridPoint, is_grid_point, HasGridCorners, has_grid_corners, has_distinct_corners}
+use Rattle.geom_core.specs.Limits.{IsGridTriangle}
 use Rattle.geom_core.proofs.CollapseLaws.{one_or_two, replaced_point-at, replaced_point-off}
 use Rattle.rim_collapse.specs.declared.vectors.Vector.{Vector}
 use Rattle.rim_collapse.specs.Legal.{keeps_facing}

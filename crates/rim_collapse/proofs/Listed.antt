@@ -1,8 +1,6 @@
 -- The facets that are listed of a list of triangles, and candidates among them.
-use Rattle.std.proofs.Common.{
-  ◌≡◌, ℕ, ◌^◌, ◌≤◌, Bool, true, false, ◌&&◌, ◌||◌, ℤ, ◌-ℤ◌, ◌*ℤ◌, unsigned_abs, List, [], ◌∷◌, map, length, All,
-  Contains, if◌then◌else◌, refl, ap, ◌∙◌, arith,
-}
+use Rattle.std.proofs.Common.{◌≡◌, ℕ, ◌^◌, ◌≤◌, Bool, true, false, ◌&&◌, ◌||◌, ℤ, ◌-ℤ◌, ◌*ℤ◌, unsigned_abs, List, []}
+use Rattle.std.proofs.Common.{◌∷◌, map, length, All, Contains, if◌then◌else◌, refl, ap, ◌∙◌, arith}
 use Rattle.std.specs.List.{list_any}
 use Rattle.std.proofs.lemmas.Bool.{and_parts}
 use Rattle.std.proofs.lemmas.Bool.Decides.{nat_tests}
@@ -14,9 +12,8 @@ use Rattle.geom_core.specs.declared.triangles.Tri.{Tri}
 use Rattle.geom_core.specs.Corners.{has_corner}
 use Rattle.geom_core.specs.Distance.{distance}
 use Rattle.geom_core.specs.EdgeSum.{same_point}
-use Rattle.geom_core.specs.Limits.{
-  is_grid_coordinate, IsGridCoordinate, is_grid_point, IsGridPoint, HasGridCorners, IsGridTriangle,
-}
+use Rattle.geom_core.specs.Limits.{is_grid_coordinate, IsGridCoordinate, is_grid_point, IsGridPoint, HasGridCorners}
+use Rattle.geom_core.specs.Limits.{IsGridTriangle}
 use Rattle.geom_core.proofs.SizeLaws.{size-mul, size-sub}
 use Rattle.rim_collapse.specs.declared.facets.Facet.{Facet}
 use Rattle.rim_collapse.specs.declared.vectors.Vector.{Vector}

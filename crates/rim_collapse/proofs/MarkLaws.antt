@@ -1,8 +1,6 @@
 -- Marks and what is asked of the marked points, one after another.
-use Rattle.std.proofs.Common.{
-  ◌≡◌, inl, inr, ℕ, ◌+◌, ◌<◌, Bool, true, false, List, Option, None, take, length, get_or, set, sym, ap, ◌∙◌, subst,
-  arith,
-}
+use Rattle.std.proofs.Common.{◌≡◌, inl, inr, ℕ, ◌+◌, ◌<◌, Bool, true, false, List, Option, None, take, length, get_or}
+use Rattle.std.proofs.Common.{set, sym, ap, ◌∙◌, subst, arith}
 use Rattle.std.proofs.lemmas.Bool.{cases_lt}
 use Rattle.std.proofs.lemmas.List.{get_or-set_other, get_or-set_same}
 use Rattle.std.proofs.lemmas.List.Elements.{All-more, All-weaker}

@@ -1,8 +1,6 @@
 -- Which points' collapses a collapse leaves as they are, and which triangles decide those of the marked points.
-use Rattle.std.proofs.Common.{
-  ◌≡◌, ◌≢◌, inl, inr, ℕ, ◌<◌, ◌≤◌, Bool, true, false, not, ◌||◌, List, [], ◌∷◌, filter, map, length, get_or, cond, All,
-  Option, None, refl, sym, ap, ◌∙◌, subst, arith,
-}
+use Rattle.std.proofs.Common.{◌≡◌, ◌≢◌, inl, inr, ℕ, ◌<◌, ◌≤◌, Bool, true, false, not, ◌||◌, List, [], ◌∷◌, filter, map}
+use Rattle.std.proofs.Common.{length, get_or, cond, All, Option, None, refl, sym, ap, ◌∙◌, subst, arith}
 use Rattle.std.specs.Bool.{◌==◌}
 use Rattle.std.specs.Prelude.{slice_index_or}
 use Rattle.std.proofs.lemmas.Bool.{and_parts, cases_Bool, or_cases, or_left, or_right}
@@ -16,9 +14,8 @@ use Rattle.geom_core.specs.Collapses.{collapsed, replaced, replaced_point}
 use Rattle.geom_core.specs.Corners.{has_corner}
 use Rattle.geom_core.specs.EdgeSum.{same_point}
 use Rattle.geom_core.specs.Limits.{has_distinct_corners, has_grid_corners, IsGridTriangle}
-use Rattle.geom_core.proofs.CollapseCorners.{
-  at_corner, has_corner-a, has_corner-b, has_corner-c, IsGridPoint-corner, IsGridTriangle-collapsed,
-}
+use Rattle.geom_core.proofs.CollapseCorners.{at_corner, has_corner-a, has_corner-b, has_corner-c, IsGridPoint-corner}
+use Rattle.geom_core.proofs.CollapseCorners.{IsGridTriangle-collapsed}
 use Rattle.geom_core.proofs.CollapseLaws.{one_or_two, replaced_point-at, replaced_point-off}
 use Rattle.rim_collapse.specs.declared.faces.Face.{Face}
 use Rattle.rim_collapse.specs.declared.keys.Key.{Key}
@@ -26,9 +23,8 @@ use Rattle.rim_collapse.specs.Cost.{around}
 use Rattle.rim_collapse.specs.Legal.{has_both, has_edge}
 use Rattle.rim_collapse.specs.States.{present}
 use Rattle.rim_collapse.specs.Internal.Bests.{AreRight, IsBestAt}
-use Rattle.rim_collapse.specs.Internal.Faces.{
-  IsNumbered, face_to, faces_after, has_distinct_numbers, has_number, point_at, state_of, tri_at, tris_at,
-}
+use Rattle.rim_collapse.specs.Internal.Faces.{IsNumbered, face_to, faces_after, has_distinct_numbers, has_number}
+use Rattle.rim_collapse.specs.Internal.Faces.{point_at, state_of, tri_at, tris_at}
 use Rattle.rim_collapse.specs.Internal.Marks.{AreMarkedRound, HasMarkedCorners, is_marked, touches}
 use Rattle.rim_collapse.proofs.BestLaws.{right-alike}
 use Rattle.rim_collapse.proofs.FaceLaws.{IsAscending, corner-number, present-state_of, state_of-after}

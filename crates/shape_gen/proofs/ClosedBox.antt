@@ -1,9 +1,7 @@
 -- The edge sums of a box are 0: the edges of a side add up to its four borders, and each border of the cube is one
 -- of two sides, once each way.
-use Rattle.std.proofs.Common.{
-  ◌≡◌, ℕ, ◌+◌, Bool, true, false, ◌&&◌, ℤ, pos, ◌+ℤ◌, ◌-ℤ◌, neg_ℤ, List, [], ◌∷◌, ◌++◌, flat_map, if◌then◌else◌, refl,
-  ap, ◌∙◌, arith,
-}
+use Rattle.std.proofs.Common.{◌≡◌, ℕ, ◌+◌, Bool, true, false, ◌&&◌, ℤ, pos, ◌+ℤ◌, ◌-ℤ◌, neg_ℤ, List, [], ◌∷◌, ◌++◌}
+use Rattle.std.proofs.Common.{flat_map, if◌then◌else◌, refl, ap, ◌∙◌, arith}
 use Rattle.std.proofs.lemmas.Int.{ints}
 use Rattle.geom_core.specs.declared.points.Pt.{Pt}
 use Rattle.geom_core.specs.declared.triangles.Tri.{Tri}
@@ -17,9 +15,8 @@ use Rattle.shape_gen.specs.declared.sides.Face.{Face}
 use Rattle.shape_gen.specs.Boxes.{fan_of, triangles_of_box}
 use Rattle.shape_gen.specs.Lattice.{point_at}
 use Rattle.shape_gen.specs.Sides.{place_on, face_on, below, row_faces, side_faces, axis_faces, faces}
-use Rattle.shape_gen.proofs.Totals.{
-  total, total-same, total-append, total-map, total-flat_map, total-difference, total-negated, telescoped,
-}
+use Rattle.shape_gen.proofs.Totals.{total, total-same, total-append, total-map, total-flat_map, total-difference}
+use Rattle.shape_gen.proofs.Totals.{total-negated, telescoped}
 
 -- ---- the edges of a face
 
@@ -38,7 +35,7 @@ edge-turned : (u v a b : Pt) → edge u v b a ≡ neg_ℤ (edge u v a b)
 unfolding edge
 edge-turned u v a b =
     rw (and_turned (same_point b u) (same_point a v), and_turned (same_point b v) (same_point a u))
-        (omega (arith, ints))
+    (omega (arith, ints))
 
 edge_sum-one : (t : Tri) (u v : Pt) →
     edge_sum (t ∷ []) u v ≡ edge u v t.a t.b +ℤ (edge u v t.b t.c +ℤ edge u v t.c t.a)

@@ -1,7 +1,6 @@
 -- The triangles of a box are those of a mesh: few, of grid points, each of three different ones.
-use Rattle.std.proofs.Common.{
-  ◌≡◌, ◌≢◌, ℕ, zero, suc, ◌+◌, ◌<◌, ◌≤◌, ◌^◌, Bool, true, false, pos, [], ◌∷◌, length, All, refl, sym, ap, arith,
-}
+use Rattle.std.proofs.Common.{◌≡◌, ◌≢◌, ℕ, zero, suc, ◌+◌, ◌<◌, ◌≤◌, ◌^◌, Bool, true, false, pos, [], ◌∷◌, length, All}
+use Rattle.std.proofs.Common.{refl, sym, ap, arith}
 use Rattle.std.proofs.lemmas.Bool.Decides.{nat_tests}
 use Rattle.std.proofs.lemmas.List.Elements.{All-nil, All-cons}
 use Rattle.geom_core.specs.declared.points.Pt.{Pt}
@@ -46,7 +45,7 @@ grid_point_from x y z in_x in_y in_z = grind (arith, nat_tests)
 point_at-grid : (number : ℕ) (p : Place) → IsPlace p → is_grid_point (point_at number p) ≡ true
 point_at-grid number p place =
     grid_point_from (x_at number p) (y_at number p) (z_at number p) (x_at-limit number p place)
-        (y_at-limit number p place)
+    (y_at-limit number p place)
     (z_at-limit number p place)
 
 -- ---- two places have two points
@@ -139,7 +138,7 @@ fan-grid number f places corners =
     All-cons IsGridTriangle lower (upper ∷ [])
     (triangle_from lower (point_at-grid number f.a places.0) (point_at-grid number f.b places.1)
     (point_at-grid number f.c places.2) (points_differ number f.a f.b corners.ab)
-        (points_differ number f.b f.c corners.bc)
+    (points_differ number f.b f.c corners.bc)
     (points_differ number f.c f.a corners.ca))
     (All-cons IsGridTriangle upper []
     (triangle_from upper (point_at-grid number f.a places.0) (point_at-grid number f.c places.2)

@@ -8,13 +8,11 @@ use Rattle.std.proofs.lemmas.List.Elements.{All-map, All-filter}
 use Rattle.std.proofs.lemmas.List.FromFn.{length-range_with_len}
 use Rattle.std.proofs.lemmas.List.Kept.{AllPairs-filter}
 use Rattle.shape_gen.specs.declared.lattice.Place.{Place}
-use Rattle.shape_gen.specs.Lattice.{
-  IsBoxSize, IsPlace, place, is_on_surface, row_places, layer_places, cube_places, lattice,
-}
+use Rattle.shape_gen.specs.Lattice.{IsBoxSize, IsPlace, place, is_on_surface, row_places, layer_places, cube_places}
+use Rattle.shape_gen.specs.Lattice.{lattice}
 use Rattle.shape_gen.specs.Order.{place_cmp, IsAscending}
-use Rattle.shape_gen.proofs.RangeFacts.{
-  All-range, All-flat_map, length-flat_map_most, AllPairs-range, AllPairs-flat_map,
-}
+use Rattle.shape_gen.proofs.RangeFacts.{All-range, All-flat_map, length-flat_map_most, AllPairs-range}
+use Rattle.shape_gen.proofs.RangeFacts.{AllPairs-flat_map}
 
 abbrev Before : Place → Place → Type 0
 Before p q = place_cmp p q ≡ Less
@@ -32,20 +30,20 @@ before_i i j k h l m below = grind (arith, nat_tests)
 All-row : (P : Place → Type 0) (n i j : ℕ) → ((k : ℕ) → k ≤ n → P (place i j k)) → All P (row_places n i j)
 All-row P n i j each =
     All-map P (place i j) (range_with_len 0 (n + 1))
-        (All-range (λ k. P (place i j k)) 0 (n + 1) (λ k least most. each k (omega arith)))
+    (All-range (λ k. P (place i j k)) 0 (n + 1) (λ k least most. each k (omega arith)))
 
 All-layer : (P : Place → Type 0) (n i : ℕ) → ((j k : ℕ) → j ≤ n → k ≤ n → P (place i j k)) → All P (layer_places n i)
 All-layer P n i each =
     All-flat_map P (row_places n i) (range_with_len 0 (n + 1))
     (All-range (λ j. All P (row_places n i j)) 0 (n + 1)
-        (λ j least most. All-row P n i j (λ k. each j k (omega arith))))
+    (λ j least most. All-row P n i j (λ k. each j k (omega arith))))
 
 All-cube : (P : Place → Type 0) (n : ℕ) → ((i j k : ℕ) → i ≤ n → j ≤ n → k ≤ n → P (place i j k)) →
     All P (cube_places n)
 All-cube P n each =
     All-flat_map P (layer_places n) (range_with_len 0 (n + 1))
     (All-range (λ i. All P (layer_places n i)) 0 (n + 1)
-        (λ i least most. All-layer P n i (λ j k. each i j k (omega arith))))
+    (λ i least most. All-layer P n i (λ j k. each i j k (omega arith))))
 
 rows_ascend : (n i j : ℕ) → AllPairs Before (row_places n i j)
 rows_ascend n i j = AllPairs-range Before (place i j) (before_k i j) 0 (n + 1)

@@ -1,8 +1,6 @@
 -- What holds of each element, and of each two elements, of a list that is made from the numbers of a range.
-use Rattle.std.proofs.Common.{
-  ℕ, zero, suc, ◌+◌, ◌*◌, ◌<◌, ◌≤◌, List, [], ◌∷◌, ◌++◌, length, get_or, map, flat_map, All, AllPairs, sym, subst,
-  arith,
-}
+use Rattle.std.proofs.Common.{ℕ, zero, suc, ◌+◌, ◌*◌, ◌<◌, ◌≤◌, List, [], ◌∷◌, ◌++◌, length, get_or, map, flat_map, All}
+use Rattle.std.proofs.Common.{AllPairs, sym, subst, arith}
 use Rattle.std.specs.List.{range_with_len}
 use Rattle.std.proofs.lemmas.List.{length-append}
 use Rattle.std.proofs.lemmas.List.Elements.{All-nil, All-head, All-tail, All-append, All-map}
@@ -44,7 +42,7 @@ AllPairs-append R [] ys first second across = second
 AllPairs-append {X} R (x ∷ xs) ys first second across =
     AllPairs-cons R x (xs ++ ys)
     (All-append (R x) xs ys (λ k d h. first 0 (suc k) d (omega arith) (omega arith))
-        (All-head (λ (z : X). All (R z) ys) x xs across))
+    (All-head (λ (z : X). All (R z) ys) x xs across))
     (AllPairs-append R xs ys (λ i j d below h. first (suc i) (suc j) d (omega arith) (omega arith)) second
     (All-tail (λ (z : X). All (R z) ys) x xs across))
 
@@ -54,7 +52,7 @@ AllPairs-range R f rises a zero = λ i j d below h. absurd (omega arith)
 AllPairs-range R f rises a (suc n) =
     AllPairs-cons R (f a) (map f (range_with_len (a + 1) n))
     (All-map (R (f a)) f (range_with_len (a + 1) n)
-        (All-range (λ k. R (f a) (f k)) (a + 1) n (λ k least most. rises a k (omega arith))))
+    (All-range (λ k. R (f a) (f k)) (a + 1) n (λ k least most. rises a k (omega arith))))
     (AllPairs-range R f rises (a + 1) n)
 
 pub AllPairs-flat_map : {X : Type 0} (R : X → X → Type 0) (f : ℕ → List X) → ((i : ℕ) → AllPairs R (f i)) →
@@ -62,6 +60,6 @@ pub AllPairs-flat_map : {X : Type 0} (R : X → X → Type 0) (f : ℕ → List 
 AllPairs-flat_map R f within across a zero = λ i j d below h. absurd (omega arith)
 AllPairs-flat_map R f within across a (suc n) =
     AllPairs-append R (f a) (flat_map f (range_with_len (a + 1) n)) (within a)
-        (AllPairs-flat_map R f within across (a + 1) n)
+    (AllPairs-flat_map R f within across (a + 1) n)
     (λ k d h. All-flat_map (R (get_or (f a) k d)) f (range_with_len (a + 1) n)
     (All-range (λ i. All (R (get_or (f a) k d)) (f i)) (a + 1) n (λ i least most. across a i (omega arith) k d h)))

@@ -1,7 +1,6 @@
 -- The definitions at small values.
-use Rattle.std.proofs.Common.{
-  ◌≡◌, ℕ, ◌-◌, ◌^◌, List, [], ◌∷◌, Bool, true, false, None, Some, Ok, Err, inl, inr, refl, arith, lit<, lit≤,
-}
+use Rattle.std.proofs.Common.{◌≡◌, ℕ, ◌-◌, ◌^◌, List, [], ◌∷◌, Bool, true, false, None, Some, Ok, Err, inl, inr, refl}
+use Rattle.std.proofs.Common.{arith, lit<, lit≤}
 use Rattle.span_io.specs.declared.sources.Got.TheVariants as got
 use Rattle.span_io.specs.declared.sinks.Took.TheVariants as took
 use Rattle.span_io.specs.Consumers.{FeedDoes, FedToEnd, FedToFailure, FedToLimit, FedToStop}

@@ -1,8 +1,6 @@
 -- The loop of reads: what the consumer was fed so far, and what each end of the loop makes of it.
-use Rattle.std.proofs.Common.{
-  ◌≡◌, ℕ, ◌+◌, ◌-◌, ◌<◌, ◌≤◌, min, List, ◌++◌, length, take, Option, sym, ◌∙◌, ap, subst, inl, inr, arith,
-  length-append,
-}
+use Rattle.std.proofs.Common.{◌≡◌, ℕ, ◌+◌, ◌-◌, ◌<◌, ◌≤◌, min, List, ◌++◌, length, take, Option, sym, ◌∙◌, ap, subst}
+use Rattle.std.proofs.Common.{inl, inr, arith, length-append}
 use Rattle.std.proofs.Math.Seq.{take-append-add}
 use Rattle.std.proofs.lemmas.Bool.{cases_lt}
 use Rattle.std.proofs.lemmas.List.{take_all, take-take, length-take}
@@ -57,7 +55,7 @@ pub take_piece : (limit count : ℕ) (bytes buffer : List ℕ) (n : ℕ) → len
 take_piece limit count bytes buffer n counted short =
     take_over limit bytes (take n buffer) (omega arith)
     ∙ ap (λ l. bytes ++ l) (take_less (limit - length bytes) n buffer ∙
-        ap (λ c. take (min n (limit - c)) buffer) counted)
+    ap (λ c. take (min n (limit - c)) buffer) counted)
 
 -- a piece more
 pub fed_more : {C : Type 0} (HasFed : C → List ℕ → Type 0) (limit : ℕ) (left mid new_left : Option (List ℕ))

@@ -1,7 +1,6 @@
 -- The text that was gathered: all of what a source had left, or more than the limit.
-use Rattle.std.proofs.Common.{
-  ◌≡◌, ℕ, ◌+◌, List, [], ◌++◌, length, Option, None, Some, refl, sym, ◌∙◌, ap, length-append, arith,
-}
+use Rattle.std.proofs.Common.{◌≡◌, ℕ, ◌+◌, List, [], ◌++◌, length, Option, None, Some, refl, sym, ◌∙◌, ap}
+use Rattle.std.proofs.Common.{length-append, arith}
 use Rattle.std.proofs.lemmas.List.{append-nil, drop_at}
 use Rattle.span_io.specs.Reads.{Consumed, ReadToEnd}
 use Rattle.span_io.specs.Texts.{IsText, IsLonger}

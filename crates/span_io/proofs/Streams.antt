@@ -1,8 +1,7 @@
 -- One read after another takes the bytes of both, and one put after another is a put of both.
-use Rattle.std.proofs.Common.{
-  ◌≡◌, ℕ, ◌+◌, ◌<◌, List, [], ◌∷◌, ◌++◌, Bool, false, Option, None, Some, length, take, drop, option_map, refl, sym,
-  ◌∙◌, ap, subst, arith, append_assoc, take-append-drop, length-take-le,
-}
+use Rattle.std.proofs.Common.{◌≡◌, ℕ, ◌+◌, ◌<◌, List, [], ◌∷◌, ◌++◌, Bool, false, Option, None, Some, length, take}
+use Rattle.std.proofs.Common.{drop, option_map, refl, sym, ◌∙◌, ap, subst, arith, append_assoc, take-append-drop}
+use Rattle.std.proofs.Common.{length-take-le}
 use Rattle.std.proofs.lemmas.List.{append-nil, take-take, drop-take}
 use Rattle.span_io.specs.Reads.{Consumed, GotBytes}
 use Rattle.span_io.specs.Puts.{Appended, flushed_after, Appends}
@@ -17,7 +16,7 @@ pub consumed-append : (first second third : Option (List ℕ)) (xs ys : List ℕ
 consumed-append first second None xs ys one two = one ∙ ap (option_map (λ (rest : List ℕ). xs ++ rest)) two
 consumed-append first second (Some rest) xs ys one two =
     one ∙ ap (option_map (λ (tail : List ℕ). xs ++ tail)) two ∙
-        ap (λ (bytes : List ℕ). Some bytes) (sym (append_assoc xs ys rest))
+    ap (λ (bytes : List ℕ). Some bytes) (sym (append_assoc xs ys rest))
 
 -- bytes that a read gave, as those taken from the front
 pub consumed_got : (left new_left : Option (List ℕ)) (faults new_faults : ℕ) (buffer : List ℕ) (n : ℕ) →
@@ -38,7 +37,7 @@ pub appended-append : (first second third : Option (List ℕ)) (xs ys : List ℕ
 appended-append None second third xs ys one two = two ∙ ap (option_map (λ (before : List ℕ). before ++ ys)) one
 appended-append (Some before) second third xs ys one two =
     two ∙ ap (option_map (λ (before : List ℕ). before ++ ys)) one ∙
-        ap (λ (bytes : List ℕ). Some bytes) (append_assoc before xs ys)
+    ap (λ (bytes : List ℕ). Some bytes) (append_assoc before xs ys)
 
 pub flushed_after-append : (flushed : Bool) (xs ys : List ℕ) →
     flushed_after (flushed_after flushed xs) ys ≡ flushed_after flushed (xs ++ ys)
@@ -65,7 +64,7 @@ take_parts m n xs =
     let front : take m (take (m + n) xs) ≡ take m xs = take-take m (m + n) xs (omega arith) in
     let back : drop m (take (m + n) xs) ≡ take n (drop m xs) = drop-take m n xs in
     ap (λ (l : List ℕ). l ++ take n (drop m xs)) (sym front) ∙
-        ap (λ (l : List ℕ). take m (take (m + n) xs) ++ l) (sym back) ∙ take-append-drop m (take (m + n) xs)
+    ap (λ (l : List ℕ). take m (take (m + n) xs) ++ l) (sym back) ∙ take-append-drop m (take (m + n) xs)
 
 -- bytes that a sink took, as a put of them
 pub put_taken : (written new_written : Option (List ℕ)) (flushed new_flushed : Bool) (faults new_faults : ℕ)
@@ -84,5 +83,5 @@ pub put_more : (first second third : Option (List ℕ)) (f g h : Bool) (faults n
     TookBytes second third h faults new_faults (drop at bytes) n → Appends first third f h (take (at + n) bytes)
 put_more first second third f g h faults new_faults bytes at n so_far took =
     subst (Appends first third f h) (take_parts at n bytes)
-        (put-append first second third f g h (take at bytes) (take n (drop at bytes)) so_far
-        (put_taken second third g h faults new_faults (drop at bytes) n took))
+    (put-append first second third f g h (take at bytes) (take n (drop at bytes)) so_far
+    (put_taken second third g h faults new_faults (drop at bytes) n took))

@@ -1,8 +1,6 @@
 -- Marks on groups and pages, and the chains of clusters by the page of their maker.
-use Rattle.std.specs.Prelude.{
-  ◌≡◌, Bool, true, false, ◌&&◌, ◌==◌, ℕ, zero, suc, List, length, map, filter, Option, Some, None, slice_index_or,
-  if◌then◌else◌,
-}
+use Rattle.std.specs.Prelude.{◌≡◌, Bool, true, false, ◌&&◌, ◌==◌, ℕ, zero, suc, List, length, map, filter, Option, Some}
+use Rattle.std.specs.Prelude.{None, slice_index_or, if◌then◌else◌}
 use Rattle.std.specs.List.{list_any, range_with_len}
 use Rattle.std.specs.List.Sorted.{IsStrictlyIncreasing}
 use Rattle.dag_core.specs.declared.heads.Heads.{Heads}

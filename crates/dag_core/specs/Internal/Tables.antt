@@ -28,7 +28,7 @@ terminal_pages_of heads = map (has_terminal_on heads) (range_with_len 0 heads.pa
 unfoldable pub has_later_upper : Heads → ℕ → Bool
 has_later_upper heads p =
     list_any (λ c. is_maker_on heads p (cluster_at heads c).made && nat_lt p (page_of_cluster heads c))
-        (all_clusters heads)
+    (all_clusters heads)
 
 -- by page, whether it has an upper of a greater number
 abbrev pub later_uppers_of : Heads → List Bool

@@ -1,7 +1,6 @@
 -- Which shared edges an item has: for each item a chain of its edges, from the last one back.
-use Rattle.std.specs.Prelude.{
-  ◌≡◌, ◌≢◌, ◌<◌, ◌⊎◌, ℕ, List, [], Option, Some, None, length, slice_index, slice_index_or, Contains,
-}
+use Rattle.std.specs.Prelude.{◌≡◌, ◌≢◌, ◌<◌, ◌⊎◌, ℕ, List, [], Option, Some, None, length, slice_index, slice_index_or}
+use Rattle.std.specs.Prelude.{Contains}
 use Rattle.partition.specs.declared.edges_of_item.ItemEdge.{ItemEdge}
 use Rattle.partition.specs.declared.edges_of_item.EdgesOfItem.{EdgesOfItem}
 
@@ -15,7 +14,7 @@ IsLastBefore items item end (Some p) =
 abbrev pub HasItemEdge : List ℕ → List ItemEdge → ℕ → ℕ → Type 0
 HasItemEdge items item_edges item edge =
     (p : ℕ) × (p < length items) × (slice_index items p ≡ item) ×
-        ((d : ItemEdge) → (slice_index_or item_edges p d).edge ≡ edge)
+    ((d : ItemEdge) → (slice_index_or item_edges p d).edge ≡ edge)
 
 -- the shared edge of this number has the item
 abbrev pub EdgeHasItem : List (List ℕ) → ℕ → ℕ → Type 0

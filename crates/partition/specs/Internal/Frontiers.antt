@@ -1,7 +1,6 @@
 -- The frontier: of each shared edge that touches the present batch, the least item that isn't placed is in a queue.
-use Rattle.std.specs.Prelude.{
-  ◌≡◌, ◌<◌, ◌≤◌, ◌⊎◌, ℕ, Bool, true, false, List, [], length, slice_index, slice_index_or, Contains,
-}
+use Rattle.std.specs.Prelude.{◌≡◌, ◌<◌, ◌≤◌, ◌⊎◌, ℕ, Bool, true, false, List, [], length, slice_index, slice_index_or}
+use Rattle.std.specs.Prelude.{Contains}
 use Rattle.partition.specs.Internal.EdgesOfItem.{EdgeHasItem}
 
 -- there is such an item, and it isn't placed

@@ -1,7 +1,6 @@
 -- The least legal collapses of single points.
-use Rattle.std.specs.Prelude.{
-  ◌≡◌, ◌<◌, Bool, true, false, ◌&&◌, ℕ, List, length, Option, Some, None, All, slice_index_or, if◌then◌else◌,
-}
+use Rattle.std.specs.Prelude.{◌≡◌, ◌<◌, Bool, true, false, ◌&&◌, ℕ, List, length, Option, Some, None, All}
+use Rattle.std.specs.Prelude.{slice_index_or, if◌then◌else◌}
 use Rattle.std.specs.Ordering.{is_lt}
 use Rattle.geom_core.specs.declared.points.Pt.{Pt}
 use Rattle.geom_core.specs.declared.triangles.Tri.{Tri}
@@ -39,7 +38,7 @@ IsBestAmong tris locked points None = All (λ p. (q : Pt) → is_legal_collapse 
 IsBestAmong tris locked points (Some k) =
     (k ≡ key_of tris k.from k.to) × (is_legal_collapse tris locked k.from k.to ≡ true)
     × All (λ p. (q : Pt) → is_legal_collapse tris locked p q ≡ true → is_lt (key_cmp (key_of tris p q) k) ≡ false)
-        points
+    points
 
 -- the lesser of two collapses, each of which may be missing
 abbrev pub lesser_of : Option Key → Option Key → Option Key

@@ -1,7 +1,6 @@
 -- Triangles by the numbers of their corners in a list of points, and of the triangles that they were.
-use Rattle.std.specs.Prelude.{
-  ◌<◌, ◌==◌, Bool, not, ◌&&◌, ◌||◌, ℕ, pos, List, filter, map, slice_index_or, if◌then◌else◌,
-}
+use Rattle.std.specs.Prelude.{◌<◌, ◌==◌, Bool, not, ◌&&◌, ◌||◌, ℕ, pos, List, filter, map, slice_index_or}
+use Rattle.std.specs.Prelude.{if◌then◌else◌}
 use Rattle.geom_core.specs.declared.points.Pt.{Pt}
 use Rattle.geom_core.specs.declared.triangles.Tri.{Tri}
 use Rattle.geom_core.specs.declared.triangles.Tagged.{Tagged}

@@ -1,6 +1,5 @@
-use Rattle.std.proofs.Common.{
-  ◌≡◌, ◌≤◌, ◌<◌, ◌+◌, ◌++◌, [], List, ℕ, take, length, get_or, All, ap, sym, subst, refl, ◌∙◌, arith,
-}
+use Rattle.std.proofs.Common.{◌≡◌, ◌≤◌, ◌<◌, ◌+◌, ◌++◌, [], List, ℕ, take, length, get_or, All, ap, sym, subst, refl}
+use Rattle.std.proofs.Common.{◌∙◌, arith}
 use Rattle.std.specs.List.{concat}
 use Rattle.std.proofs.lemmas.List.{get_or_read, length-map}
 use Rattle.partition.specs.Batches.{pick}
@@ -10,9 +9,8 @@ use Rattle.dag_build.specs.Grouping.{AreShapesOf, no_cluster}
 use Rattle.dag_build.specs.Levels.{tris_in}
 use Rattle.dag_build.specs.Internal.Taking.{AreFresh, AreLeft}
 use Rattle.dag_build.proofs.BatchLaws.{concat-more}
-use Rattle.dag_build.proofs.LevelLaws.{
-  GroupsSoFar, batches-seen, clusters-few, groups-all, groups-more, groups-none, picked-some,
-}
+use Rattle.dag_build.proofs.LevelLaws.{GroupsSoFar, batches-seen, clusters-few, groups-all, groups-more, groups-none}
+use Rattle.dag_build.proofs.LevelLaws.{picked-some}
 use Rattle.dag_build.proofs.building.build_level.Goals as goal
 
 pub cut_groups-requires-clause-cluster_limit : goal.cut_groups-requires-clause-cluster_limit

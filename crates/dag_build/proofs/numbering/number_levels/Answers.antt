@@ -1,9 +1,8 @@
 use Rattle.std.proofs.Common.{rules, ◌≡◌, ◌∷◌, [], None, map, ap, sym, ◌∙◌, arith}
 use Rattle.std.proofs.lemmas.List.{append-nil}
 use Rattle.dag_build.specs.Numbers.{dag_of}
-use Rattle.dag_build.proofs.NumberLaws.{
-  none_left, numbered-clusters, numbered-dag, numbered-groups, numbered-more, numbered-none, popped, room,
-}
+use Rattle.dag_build.proofs.NumberLaws.{none_left, numbered-clusters, numbered-dag, numbered-groups, numbered-more}
+use Rattle.dag_build.proofs.NumberLaws.{numbered-none, popped, room}
 use Rattle.dag_build.proofs.numbering.number_levels.Goals as goal
 
 pub levels-init : goal.levels-init

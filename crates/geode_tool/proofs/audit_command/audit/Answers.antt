@@ -23,22 +23,22 @@ returns-in_err-verdict g c = record {
 pub returns-in_err-write_whole : goal.returns-in_err-write_whole
 returns-in_err-write_whole g c =
     let made =
-        verdict_made _ _ _ _ c.in_ok-entries.entries c.as_bytes.result.now c.in_ok-entries.ensures.legal
-        (c.as_bytes.ensures.value ∙ c.in_ok-verdict.ensures) c.in_ok-entries.ensures.input_read
-        c.in_ok-entries.ensures.no_fault in record {
+    verdict_made _ _ _ _ c.in_ok-entries.entries c.as_bytes.result.now c.in_ok-entries.ensures.legal
+    (c.as_bytes.ensures.value ∙ c.in_ok-verdict.ensures) c.in_ok-entries.ensures.input_read
+    c.in_ok-entries.ensures.no_fault in record {
       promise =
           promise-unwritten Audit _ _ _ _ _ _ _ _ _ _ _ _ _ c.in_err-write_whole.field-0.0
           (Audited c.in_ok-entries.entries) c.as_bytes.result.now
           c.from_residual-in_err-write_whole.ensures c.in_err-write_whole.ensures.write_fault made
-              c.in_err-write_whole.ensures.cause c.in_err-write_whole.ensures.prefix;
+          c.in_err-write_whole.ensures.cause c.in_err-write_whole.ensures.prefix;
     }
 
 pub returns : goal.returns
 returns g c =
     let made =
-        verdict_made _ _ _ _ c.in_ok-entries.entries c.as_bytes.result.now c.in_ok-entries.ensures.legal
-        (c.as_bytes.ensures.value ∙ c.in_ok-verdict.ensures) c.in_ok-entries.ensures.input_read
-        c.in_ok-entries.ensures.no_fault in record {
+    verdict_made _ _ _ _ c.in_ok-entries.entries c.as_bytes.result.now c.in_ok-entries.ensures.legal
+    (c.as_bytes.ensures.value ∙ c.in_ok-verdict.ensures) c.in_ok-entries.ensures.input_read
+    c.in_ok-entries.ensures.no_fault in record {
       promise =
           promise-done Audit _ _ _ _ _ _ _ _ _ _ _ _
           (Audited c.in_ok-entries.entries) c.as_bytes.result.now made c.in_ok-write_whole.ensures.output

@@ -8,4 +8,4 @@ returns-in_err-text-clause-refused g c =
 pub returns-clause-refused : goal.returns-clause-refused
 returns-clause-refused g c =
     judge_refused c.entries_of.result _ _ c.in_ok-text.text.items _ _ c.in_ok-text.ensures.text
-        c.in_ok-text.ensures.read_to_end (rw c.deref.ensures.value at c.entries_of.ensures.refused)
+    c.in_ok-text.ensures.read_to_end (rw c.deref.ensures.value at c.entries_of.ensures.refused)

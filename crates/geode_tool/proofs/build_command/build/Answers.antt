@@ -9,9 +9,9 @@ use Rattle.geode_tool.proofs.build_command.build.Goals as goal
 pub returns-in_err-write_pages : goal.returns-in_err-write_pages
 returns-in_err-write_pages g c =
     let made =
-        file_made _ _ _ _ c.in_ok-dag.dag c.counts-counts.result c.in_ok-dag.ensures.built
-        c.counts-counts.ensures.counts
-        c.in_ok-dag.ensures.input_read c.in_ok-dag.ensures.no_fault in
+    file_made _ _ _ _ c.in_ok-dag.dag c.counts-counts.result c.in_ok-dag.ensures.built
+    c.counts-counts.ensures.counts
+    c.in_ok-dag.ensures.input_read c.in_ok-dag.ensures.no_fault in
     record {
       promise =
           file_refused g.K.Sink.written g.K.Sink.flushed g.K.Sink.faults _ _ _ _ c.args.out.now c.write_pages.new.out _
@@ -24,9 +24,9 @@ returns-in_err-write_pages g c =
 pub returns : goal.returns
 returns g c =
     let made =
-        file_made _ _ _ _ c.in_ok-dag.dag c.counts-counts.result c.in_ok-dag.ensures.built
-        c.counts-counts.ensures.counts
-        c.in_ok-dag.ensures.input_read c.in_ok-dag.ensures.no_fault in
+    file_made _ _ _ _ c.in_ok-dag.dag c.counts-counts.result c.in_ok-dag.ensures.built
+    c.counts-counts.ensures.counts
+    c.in_ok-dag.ensures.input_read c.in_ok-dag.ensures.no_fault in
     record {
       promise =
           promise-done Build _ _ _ _ _ _ _ _ _ _ _ _ (Built c.counts-counts.result) (file_bytes c.in_ok-dag.dag) made

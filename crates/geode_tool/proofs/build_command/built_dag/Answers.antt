@@ -10,10 +10,10 @@ lay_out-requires g c = record {
 pub returns-clause-built : goal.returns-clause-built
 returns-clause-built g c =
     built_from _ c.in_ok-tris.tris.items c.in_ok-dag.dag c.in_ok-lay_out.field-0 c.in_ok-tris.ensures.listed
-        c.in_ok-tris.ensures.sound
+    c.in_ok-tris.ensures.sound
     c.in_ok-dag.ensures.built c.in_ok-lay_out.ensures.dag
 
 pub returns-in_err-tris-clause-refused : goal.returns-in_err-tris-clause-refused
 returns-in_err-tris-clause-refused g c =
     mesh_refused _ _ _ _ _ c.in_err-tris.field-0.0 c.from_residual.ensures c.in_err-tris.ensures.refused
-        c.in_err-tris.ensures.read_up_to
+    c.in_err-tris.ensures.read_up_to

@@ -10,4 +10,4 @@ pub returns : goal.returns
 returns c =
     c.ok.ensures.value
     ∙ camera-some c.args.word.now c.in_ok-numbers_in.field-0 c.new.result
-        (sym c.numbers_in.ensures ∙ c.in_ok-numbers_in.was) c.new.ensures.camera c.new.ensures.bad_camera
+    (sym c.numbers_in.ensures ∙ c.in_ok-numbers_in.was) c.new.ensures.camera c.new.ensures.bad_camera

@@ -10,7 +10,7 @@ returns-then-is_numeral-clause-number c = search rules
 pub returns-then-is_numeral-clause-number_limit : goal.returns-then-is_numeral-clause-number_limit
 returns-then-is_numeral-clause-number_limit c =
     rw c.decimal_value.ensures (is_numeral-bound c.args.most c.args.word.now
-        (sym c.is_numeral.ensures ∙ c.if-is_numeral.true))
+    (sym c.is_numeral.ensures ∙ c.if-is_numeral.true))
 
 pub returns-else-is_numeral-clause-number : goal.returns-else-is_numeral-clause-number
 unfolding whole_number

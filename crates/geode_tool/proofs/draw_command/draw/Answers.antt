@@ -16,26 +16,26 @@ returns-in_err-text g c = record {
 pub returns-in_err-write_whole : goal.returns-in_err-write_whole
 returns-in_err-write_whole g c =
     let picture =
-        subst (IsPictureText c.args.request.now (g.S.Source.left c.args.input.now))
-        (sym c.deref.ensures.value) c.in_ok-text.ensures.picture in
+    subst (IsPictureText c.args.request.now (g.S.Source.left c.args.input.now))
+    (sym c.deref.ensures.value) c.in_ok-text.ensures.picture in
     let made =
-        picture_made c.args.request.now _ _ _ _ c.deref.result.now picture c.in_ok-text.ensures.input_read
-        c.in_ok-text.ensures.no_fault in record {
+    picture_made c.args.request.now _ _ _ _ c.deref.result.now picture c.in_ok-text.ensures.input_read
+    c.in_ok-text.ensures.no_fault in record {
       promise =
           promise-unwritten (Draw c.args.request.now) _ _ _ _ _ _ _ _ _ _ _ _ _ c.in_err-write_whole.field-0.0 Drawn
           c.deref.result.now
           c.from_residual-in_err-write_whole.ensures c.in_err-write_whole.ensures.write_fault made
-              c.in_err-write_whole.ensures.cause c.in_err-write_whole.ensures.prefix;
+          c.in_err-write_whole.ensures.cause c.in_err-write_whole.ensures.prefix;
     }
 
 pub returns : goal.returns
 returns g c =
     let picture =
-        subst (IsPictureText c.args.request.now (g.S.Source.left c.args.input.now))
-        (sym c.deref.ensures.value) c.in_ok-text.ensures.picture in
+    subst (IsPictureText c.args.request.now (g.S.Source.left c.args.input.now))
+    (sym c.deref.ensures.value) c.in_ok-text.ensures.picture in
     let made =
-        picture_made c.args.request.now _ _ _ _ c.deref.result.now picture c.in_ok-text.ensures.input_read
-        c.in_ok-text.ensures.no_fault in record {
+    picture_made c.args.request.now _ _ _ _ c.deref.result.now picture c.in_ok-text.ensures.input_read
+    c.in_ok-text.ensures.no_fault in record {
       promise =
           promise-done (Draw c.args.request.now) _ _ _ _ _ _ _ _ _ _ _ _ Drawn c.deref.result.now made
           c.in_ok-write_whole.ensures.output c.in_ok-write_whole.ensures.flushed c.in_ok-write_whole.ensures.no_fault;

@@ -19,7 +19,7 @@ returns-clause-picture g c =
     let tris = c.in_ok-tris.tris.items in
     let words : c.deref-2.result.now ≡ picture request.camera request.size (items_of tris) =
     c.deref-2.ensures.value ∙ c.in_ok-words.ensures.picture ∙
-        ap (λ l. picture request.camera request.size (items_of l)) c.deref.ensures.value in
+    ap (λ l. picture request.camera request.size (items_of l)) c.deref.ensures.value in
     record {
       tris = tris;
       listed = c.in_ok-tris.ensures.listed;
@@ -29,4 +29,4 @@ returns-clause-picture g c =
 pub returns-in_err-tris-clause-refused : goal.returns-in_err-tris-clause-refused
 returns-in_err-tris-clause-refused g c =
     obj_refused _ c.args.request.now _ _ _ _ c.in_err-tris.field-0.0 c.from_residual.ensures
-        c.in_err-tris.ensures.refused c.in_err-tris.ensures.read_up_to
+    c.in_err-tris.ensures.refused c.in_err-tris.ensures.read_up_to

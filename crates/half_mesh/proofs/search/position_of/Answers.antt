@@ -8,4 +8,4 @@ returns-clause-absent g c =
     (searched_none (λ (x : g.row.T.Denot). g.T.Ord.cmp x c.args.item.now) c.args.items.now c.binary_search.result
     c.binary_search.ensures.position
     (searchable_from_sorted g.met.T.Ord.total
-        (λ (x : g.row.T.Denot). x) c.args.items.now c.args.item.now c.requires.sorted))
+    (λ (x : g.row.T.Denot). x) c.args.items.now c.args.item.now c.requires.sorted))

@@ -29,6 +29,6 @@ loop-term-preserved c = elim c.if-eq.branch [
 pub returns : goal.returns
 returns c =
     adding_done c.args.terms.now c.in-Some.first.now c.in-Some.later.now c.loop-term.sums.items
-        c.push_sum-2.new.sums.items
+    c.push_sum-2.new.sums.items
     c.loop-term.edge (to_z w32 c.loop-term.sum-bits) c.loop-term.term-index c.in-Some.ensures.cases.0
     c.loop-term-test.false c.loop-term.invariant.0 c.in_ok-push_sum-2.ensures

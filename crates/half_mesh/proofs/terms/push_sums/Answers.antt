@@ -8,6 +8,6 @@ loop-place-init c = sym (terms_in-nothing c.args.terms.now.items)
 pub loop-place-preserved : goal.loop-place-preserved
 loop-place-preserved c =
     terms_in-pushed c.args.edges.now c.args.sums.now c.args.terms.now.items c.loop-place.terms.items
-        c.push.new.self.items
+    c.push.new.self.items
     c.loop-place.place _ _ c.requires.one_each c.requires.small c.loop-place-test.true c.loop-place.invariant
     c.in_ok-push.ensures.items

@@ -10,7 +10,7 @@ pub add_up-requires-clause-sorted : goal.add_up-requires-clause-sorted
 add_up-requires-clause-sorted c =
     rw c.deref.ensures.value
     (c.in_ok-sort_by_key.ensures.sorted (λ (t : EdgeTerm). t.edge)
-        (always_returns_same _ _ _ (λ a r f' k. search rules)))
+    (always_returns_same _ _ _ (λ a r f' k. search rules)))
 
 pub add_up-requires-clause-small : goal.add_up-requires-clause-small
 add_up-requires-clause-small c =

@@ -14,12 +14,16 @@ unfolding AreRimsOf
 parts_are_small one two three first second third a b c x y z =
     let none : List Tri = [] in
     few_have_small_sums (one ∷ two ∷ three ∷ []) (first ∷ second ∷ third ∷ []) (a, (b, (c, tt)))
-    (omega (arith, length-append one (two ++ (three ++ none)), length-append two (three ++ none),
-        length-append three none))
+    (omega (
+      arith,
+      length-append one (two ++ (three ++ none)),
+      length-append two (three ++ none),
+      length-append three none,
+    ))
 
 pub joined-requires : goal.joined-requires
 joined-requires c = record {
   sum_range = parts_are_small c.args.first.now c.args.second.now c.args.third.now c.in_ok-a.a c.in_ok-b.b c.in_ok-c.c
       c.in_ok-a.ensures.rim c.in_ok-b.ensures.rim c.in_ok-c.ensures.rim c.if-first-gt4.false c.if-second-gt4.false
-          c.if-third-gt4.false;
+      c.if-third-gt4.false;
 }

@@ -7,7 +7,7 @@ pub loop-preserved : goal.loop-preserved
 loop-preserved c = (
   padded c.args.uppers.now.items c.loop.uppers.items c.push.new.self.items c.of.result c.loop.counter c.args.page
       c.in_ok-push.ensures.items (c.of.ensures ∙ c.new.ensures.items) c.loop.invariant.0 c.loop.invariant.1
-          c.loop-test.true,
+      c.loop-test.true,
   omega (arith, c.loop.invariant.1),
 )
 

@@ -13,4 +13,4 @@ returns-in-Err c =
 pub returns-in-Ok : goal.returns-in-Ok
 returns-in-Ok c =
     c.ok.ensures.value ∙ number_parsed c.args.field.now c.in-Ok.text.now _ c.in-Ok.ensures.cases.0
-        (sym c.is_numeral.ensures ∙ c.if-not-is_numeral.false) c.parse.ensures.value.0
+    (sym c.is_numeral.ensures ∙ c.if-not-is_numeral.false) c.parse.ensures.value.0

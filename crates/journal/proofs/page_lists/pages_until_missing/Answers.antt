@@ -1,8 +1,7 @@
 use Rattle.std.proofs.Common.{ap, codes, ◌∙◌, ◌==◌, [], Some}
 use Rattle.std.specs.Option.{option_map}
-use Rattle.journal.proofs.Missing.{
-  from_length, needed_dash, needed_empty, needed_none, needed_some, seen_none, seen_some,
-}
+use Rattle.journal.proofs.Missing.{from_length, needed_dash, needed_empty, needed_none, needed_some, seen_none}
+use Rattle.journal.proofs.Missing.{seen_some}
 use Rattle.journal.specs.Grammar.{after_word}
 use Rattle.journal.proofs.page_lists.pages_until_missing.Goals as goal
 
@@ -30,12 +29,12 @@ returns-then-is_empty c =
     let first = c.in_default.ensures ∙ ap (after_word (codes "-")) c.reborrow.ensures in
     let some = seen_some _ _ _ _ c.in_ok-numbers.ensures c.in-Some-2.is in
     needed_empty _ _ _ first some (from_length _ _
-        (c.if-is_empty.ensures ∙ ap (λ len. len == 0) c.in-Some-2.numbers.ok.0))
+    (c.if-is_empty.ensures ∙ ap (λ len. len == 0) c.in-Some-2.numbers.ok.0))
 
 pub returns : goal.returns
 returns c =
     let first = c.in_default.ensures ∙ ap (after_word (codes "-")) c.reborrow.ensures in
     let some = seen_some _ _ _ _ c.in_ok-numbers.ensures c.in-Some-2.is in
     ap (λ pages. Some (pages, c.in-Some-2.rest)) c.of-2.ensures ∙
-        needed_some _ _ _ first some (from_length _ _
-        (c.if-is_empty.ensures ∙ ap (λ len. len == 0) c.in-Some-2.numbers.ok.0))
+    needed_some _ _ _ first some (from_length _ _
+    (c.if-is_empty.ensures ∙ ap (λ len. len == 0) c.in-Some-2.numbers.ok.0))

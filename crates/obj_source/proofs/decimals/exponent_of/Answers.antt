@@ -8,7 +8,7 @@ pub returns-in_err-number-clause-value : goal.returns-in_err-number-clause-value
 returns-in_err-number-clause-value c =
     c.from_residual.ensures
     ∙ sym (exponent_of_none c.args.word.now (sym
-        (rw c.split_sign-is_negative.ensures.rest at c.in_err-number.ensures.number)))
+    (rw c.split_sign-is_negative.ensures.rest at c.in_err-number.ensures.number)))
 
 pub returns-then-is_negative-clause-value : goal.returns-then-is_negative-clause-value
 returns-then-is_negative-clause-value c =
@@ -17,14 +17,14 @@ returns-then-is_negative-clause-value c =
     ap Some (omega (arith, ints))
     ∙ ap (λ (b : Bool). Some (signed b c.in_ok-number.field-0)) (sym minus)
     ∙ sym (exponent_of_some c.args.word.now c.in_ok-number.field-0
-        (sym (rw c.split_sign-is_negative.ensures.rest at c.in_ok-number.ensures.number)))
+    (sym (rw c.split_sign-is_negative.ensures.rest at c.in_ok-number.ensures.number)))
 
 pub returns-else-is_negative-clause-value : goal.returns-else-is_negative-clause-value
 returns-else-is_negative-clause-value c =
     let small : c.in_ok-number.field-0 < 10 ^ 4 = c.in_ok-number.ensures.small in
     let plain : has_minus c.args.word.now ≡ false =
-        sym c.split_sign-is_negative.ensures.sign ∙ c.if-is_negative.false in
+    sym c.split_sign-is_negative.ensures.sign ∙ c.if-is_negative.false in
     ap Some (omega (arith, ints))
     ∙ ap (λ (b : Bool). Some (signed b c.in_ok-number.field-0)) (sym plain)
     ∙ sym (exponent_of_some c.args.word.now c.in_ok-number.field-0
-        (sym (rw c.split_sign-is_negative.ensures.rest at c.in_ok-number.ensures.number)))
+    (sym (rw c.split_sign-is_negative.ensures.rest at c.in_ok-number.ensures.number)))

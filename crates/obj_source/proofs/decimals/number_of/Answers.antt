@@ -3,13 +3,11 @@ use Rattle.std.proofs.Math.Nat.{pow-le-pow_right}
 use Rattle.std.proofs.lemmas.List.{take_all}
 use Rattle.std.specs.Char.{is_ascii_digit}
 use Rattle.obj_source.proofs.DigitLaws.{digits_step, all_digits_step, digits_below_step, digits_fit, digit_is}
-use Rattle.obj_source.proofs.ExponentLaws.{
-  short_number_empty, short_number_long, short_number_other, short_number_digits, empty_is, not_empty,
-}
+use Rattle.obj_source.proofs.ExponentLaws.{short_number_empty, short_number_long, short_number_other}
+use Rattle.obj_source.proofs.ExponentLaws.{short_number_digits, empty_is, not_empty}
 use Rattle.obj_source.proofs.decimals.number_of.Goals as goal
-use Rattle.obj_source.proofs.decimals.number_of.Goals.{
-  then-is_empty-via-then-is_empty, then-is_empty-via-else-is_empty+then-word-gt-MOST_EXPONENT_DIGITS,
-}
+use Rattle.obj_source.proofs.decimals.number_of.Goals.{then-is_empty-via-then-is_empty}
+use Rattle.obj_source.proofs.decimals.number_of.Goals.{then-is_empty-via-else-is_empty+then-word-gt-MOST_EXPONENT_DIGITS}
 
 pub returns-then-is_empty-clause-number : goal.returns-then-is_empty-clause-number
 returns-then-is_empty-clause-number c =
@@ -27,17 +25,17 @@ returns-then-not-is_ascii_digit-clause-number c =
 pub overflow_mul-number : goal.overflow_mul-number
 overflow_mul-number c =
     let fits =
-        digits_fit c.loop-byte.number 0 c.loop-byte.byte-index (length c.args.word.now) 9 c.loop-byte.invariant.2
-        (omega arith) (omega arith) (omega arith) in
+    digits_fit c.loop-byte.number 0 c.loop-byte.byte-index (length c.args.word.now) 9 c.loop-byte.invariant.2
+    (omega arith) (omega arith) (omega arith) in
     omega arith
 
 pub overflow_add-number : goal.overflow_add-number
 overflow_add-number c =
     let digit =
-        digit_is (get_or c.args.word.now c.loop-byte.byte-index 0) (sym c.if-not-is_ascii_digit.ensures.value) in
+    digit_is (get_or c.args.word.now c.loop-byte.byte-index 0) (sym c.if-not-is_ascii_digit.ensures.value) in
     let fits =
-        digits_fit c.loop-byte.number c.from.result c.loop-byte.byte-index
-        (length c.args.word.now) 9 c.loop-byte.invariant.2 (omega arith) (omega arith) (omega arith) in
+    digits_fit c.loop-byte.number c.from.result c.loop-byte.byte-index
+    (length c.args.word.now) 9 c.loop-byte.invariant.2 (omega arith) (omega arith) (omega arith) in
     omega arith
 
 pub loop-byte-preserved : goal.loop-byte-preserved
@@ -58,7 +56,7 @@ returns-clause-number c =
     let value = rw whole at c.loop-byte.invariant.1 in
     ap Some value
     ∙ short_number_digits c.args.word.now (not_empty (length c.args.word.now) c.if-is_empty.ensures)
-        (omega arith) digits
+    (omega arith) digits
 
 pub returns-clause-small : goal.returns-clause-small
 returns-clause-small c =

@@ -7,7 +7,7 @@ use Rattle.obj_source.proofs.decimals.read_digits.Goals as goal
 pub returns-then-not-is_ascii_digit-clause-len : goal.returns-then-not-is_ascii_digit-clause-len
 returns-then-not-is_ascii_digit-clause-len c =
     sym (prefix_len_is is_ascii_digit c.args.bytes.now c.loop-len.len 0 (omega arith) c.loop-len.invariant.are_digits
-        (λ _. sym c.if-not-is_ascii_digit.ensures.value))
+    (λ _. sym c.if-not-is_ascii_digit.ensures.value))
 
 pub loop-len-preserved : goal.loop-len-preserved
 loop-len-preserved c =
@@ -26,4 +26,4 @@ pub returns-clause-len : goal.returns-clause-len
 returns-clause-len c =
     let all : length c.args.bytes.now ≡ c.loop-len.len = omega arith in
     sym (prefix_len_is is_ascii_digit c.args.bytes.now (length c.args.bytes.now) 0 (omega arith)
-        (rw all c.loop-len.invariant.are_digits) (λ h. absurd (omega arith)))
+    (rw all c.loop-len.invariant.are_digits) (λ h. absurd (omega arith)))

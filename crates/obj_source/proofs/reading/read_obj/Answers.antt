@@ -5,10 +5,8 @@ use Rattle.geom_core.specs.declared.triangles.Tri.{Tri}
 use Rattle.span_io.specs.Consumers.{FedToEnd, FedToFailure, FedToLimit, FedToStop}
 use Rattle.obj_source.specs.declared.faults.ObjFault.{ObjFault}
 use Rattle.geom_core.specs.Limits.{AreGridTriangles}
-use Rattle.obj_source.proofs.Gathered.{
-  Takes, StopsAt, refused_at_end, refused_at_stop, refused_long, end-reads_up_to, failure-reads_up_to,
-  limit-reads_up_to, stop-reads_up_to,
-}
+use Rattle.obj_source.proofs.Gathered.{Takes, StopsAt, refused_at_end, refused_at_stop, refused_long, end-reads_up_to}
+use Rattle.obj_source.proofs.Gathered.{failure-reads_up_to, limit-reads_up_to, stop-reads_up_to}
 use Rattle.obj_source.proofs.SoundMeshes.{mesh_sound}
 use Rattle.obj_source.proofs.reading.read_obj.Goals as goal
 

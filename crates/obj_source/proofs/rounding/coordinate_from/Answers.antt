@@ -3,9 +3,8 @@ use Rattle.std.proofs.lemmas.Int.{ints}
 use Rattle.obj_source.specs.Numerals.{signed, times_power, in_grid}
 use Rattle.obj_source.proofs.RoundingLaws.{coordinate_from_none, coordinate_from_far, scale_limit}
 use Rattle.obj_source.proofs.rounding.coordinate_from.Goals as goal
-use Rattle.obj_source.proofs.rounding.coordinate_from.Goals.{
-  then-decimal-eq0-via-then-decimal-eq0, then-decimal-eq0-via-else-decimal-eq0+then-decimal-gt-MAX_DECIMAL_PLACES,
-}
+use Rattle.obj_source.proofs.rounding.coordinate_from.Goals.{then-decimal-eq0-via-then-decimal-eq0}
+use Rattle.obj_source.proofs.rounding.coordinate_from.Goals.{then-decimal-eq0-via-else-decimal-eq0+then-decimal-gt-MAX_DECIMAL_PLACES}
 
 pub returns-then-decimal-eq0 : goal.returns-then-decimal-eq0
 returns-then-decimal-eq0 c =
@@ -15,7 +14,7 @@ returns-then-decimal-eq0 c =
           sym (coordinate_from_none c.args.scale d.is_negative d.digits d.behind d.exponent (omega arith))
       | then-decimal-eq0-via-else-decimal-eq0+then-decimal-gt-MAX_DECIMAL_PLACES w ↦
           sym (coordinate_from_far c.args.scale d.is_negative d.digits d.behind d.exponent (omega arith)
-              (scale_limit c.args.scale c.requires.scale_range) (omega (arith, ints)) (omega arith))
+          (scale_limit c.args.scale c.requires.scale_range) (omega (arith, ints)) (omega arith))
     ]
 
 pub returns : goal.returns

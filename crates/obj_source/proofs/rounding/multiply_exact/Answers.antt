@@ -17,4 +17,4 @@ pub returns : goal.returns
 returns c =
     c.in_grid.ensures
     ∙ rw (c.from.ensures, c.power_of_ten.ensures.power)
-        (ap in_grid (sym (signed_mul c.args.is_negative c.args.steps (10 ^ c.args.power))))
+    (ap in_grid (sym (signed_mul c.args.is_negative c.args.steps (10 ^ c.args.power))))

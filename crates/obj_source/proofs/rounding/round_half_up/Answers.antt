@@ -5,4 +5,4 @@ use Rattle.obj_source.proofs.rounding.round_half_up.Goals as goal
 pub returns : goal.returns
 returns c =
     rw (c.power_of_ten-unit.ensures.power, c.from.ensures)
-        (nearest_signed c.args.is_negative c.args.steps _ (power_some c.args.places))
+    (nearest_signed c.args.is_negative c.args.steps _ (power_some c.args.places))

@@ -33,8 +33,8 @@ first_page_break-requires-clause-length c =
     let heads = c.args.heads.now in
     let most = tris_on-le heads c.requires.rules c.args.page c.requires.page_range in
     let count =
-        c.count_tris-count.ensures.count ∙ ap (sum_by (λ n. (cluster_at heads n).tris))
-        (c.deref.ensures.value ∙ c.in_ok-numbers.ensures.clusters) in
+    c.count_tris-count.ensures.count ∙ ap (sum_by (λ n. (cluster_at heads n).tris))
+    (c.deref.ensures.value ∙ c.in_ok-numbers.ensures.clusters) in
     omega (arith, most, count, c.requires.length)
 
 pub returns-in-Some-clause-bad : goal.returns-in-Some-clause-bad
@@ -42,8 +42,8 @@ unfolding tris_on
 returns-in-Some-clause-bad c =
     let heads = c.args.heads.now in
     let count =
-        c.count_tris-count.ensures.count ∙ ap (sum_by (λ n. (cluster_at heads n).tris))
-        (c.deref.ensures.value ∙ c.in_ok-numbers.ensures.clusters) in
+    c.count_tris-count.ensures.count ∙ ap (sum_by (λ n. (cluster_at heads n).tris))
+    (c.deref.ensures.value ∙ c.in_ok-numbers.ensures.clusters) in
     sym (c.in-Some.ensures.first ∙ ap (λ n. first_of (page_breaks heads.sources n c.args.bytes.now)) count)
 
 pub read_clusters-requires-clause-cluster_range : goal.read_clusters-requires-clause-cluster_range
@@ -51,7 +51,7 @@ read_clusters-requires-clause-cluster_range c =
     let heads = c.args.heads.now in
     let P : List ℕ → Type 0 = λ cs. All (λ n. n < length heads.clusters) cs in
     subst P (sym (c.deref-in-None.ensures.value ∙ c.in_ok-numbers.ensures.clusters))
-        (clusters_on-below heads c.args.page)
+    (clusters_on-below heads c.args.page)
 
 pub read_clusters-requires-clause-room : goal.read_clusters-requires-clause-room
 unfolding tris_on
@@ -60,7 +60,7 @@ read_clusters-requires-clause-room c =
     let P : List ℕ → Type 0 = λ cs. 40 * sum_by (λ n. (cluster_at heads n).tris) cs ≤ length c.args.bytes.now in
     let most = tris_on-le heads c.requires.rules c.args.page c.requires.page_range in
     subst P (sym (c.deref-in-None.ensures.value ∙ c.in_ok-numbers.ensures.clusters))
-        (omega (arith, most, c.requires.length))
+    (omega (arith, most, c.requires.length))
 
 pub returns-clause-page : goal.returns-clause-page
 unfolding page_of
@@ -69,15 +69,15 @@ returns-clause-page c =
     let made : List PageCluster → Page = λ cs. record { number = c.args.page; clusters = cs } in
     ap made (c.of-clusters.ensures ∙ c.in_ok-items-in-None.ensures.clusters
     ∙ ap (λ cs. clusters_of heads cs c.args.bytes.now)
-        (c.deref-in-None.ensures.value ∙ c.in_ok-numbers.ensures.clusters))
+    (c.deref-in-None.ensures.value ∙ c.in_ok-numbers.ensures.clusters))
 
 pub returns-clause-no_break : goal.returns-clause-no_break
 unfolding tris_on
 returns-clause-no_break c =
     let heads = c.args.heads.now in
     let count =
-        c.count_tris-count.ensures.count ∙ ap (sum_by (λ n. (cluster_at heads n).tris))
-        (c.deref.ensures.value ∙ c.in_ok-numbers.ensures.clusters) in
+    c.count_tris-count.ensures.count ∙ ap (sum_by (λ n. (cluster_at heads n).tris))
+    (c.deref.ensures.value ∙ c.in_ok-numbers.ensures.clusters) in
     sym (c.in-None.ensures.first ∙ ap (λ n. first_of (page_breaks heads.sources n c.args.bytes.now)) count)
 
 pub returns-clause-spelling : goal.returns-clause-spelling
@@ -85,30 +85,30 @@ unfolding tris_on page_of
 returns-clause-spelling c =
     let heads = c.args.heads.now in
     let count =
-        c.count_tris-count.ensures.count ∙ ap (sum_by (λ n. (cluster_at heads n).tris))
-        (c.deref.ensures.value ∙ c.in_ok-numbers.ensures.clusters) in
+    c.count_tris-count.ensures.count ∙ ap (sum_by (λ n. (cluster_at heads n).tris))
+    (c.deref.ensures.value ∙ c.in_ok-numbers.ensures.clusters) in
     let none =
-        sym (c.in-None.ensures.first ∙ ap (λ n. first_of (page_breaks heads.sources n c.args.bytes.now)) count) in
+    sym (c.in-None.ensures.first ∙ ap (λ n. first_of (page_breaks heads.sources n c.args.bytes.now)) count) in
     let made : List PageCluster → Page = λ cs. record { number = c.args.page; clusters = cs } in
     let same = ap made (c.of-clusters.ensures ∙ c.in_ok-items-in-None.ensures.clusters
     ∙ ap (λ cs. clusters_of heads cs c.args.bytes.now)
-        (c.deref-in-None.ensures.value ∙ c.in_ok-numbers.ensures.clusters)) in
+    (c.deref-in-None.ensures.value ∙ c.in_ok-numbers.ensures.clusters)) in
     ap page_bytes same ∙ page_bytes-read heads c.args.page c.args.bytes.now c.requires.length
-        (λ i. omega (arith, c.type_inv.bytes i))
-        (tris_on-le heads c.requires.rules c.args.page c.requires.page_range) none
+    (λ i. omega (arith, c.type_inv.bytes i))
+    (tris_on-le heads c.requires.rules c.args.page c.requires.page_range) none
 
 pub returns-clause-fits : goal.returns-clause-fits
 unfolding tris_on page_of
 returns-clause-fits c =
     let heads = c.args.heads.now in
     let count =
-        c.count_tris-count.ensures.count ∙ ap (sum_by (λ n. (cluster_at heads n).tris))
-        (c.deref.ensures.value ∙ c.in_ok-numbers.ensures.clusters) in
+    c.count_tris-count.ensures.count ∙ ap (sum_by (λ n. (cluster_at heads n).tris))
+    (c.deref.ensures.value ∙ c.in_ok-numbers.ensures.clusters) in
     let none =
-        sym (c.in-None.ensures.first ∙ ap (λ n. first_of (page_breaks heads.sources n c.args.bytes.now)) count) in
+    sym (c.in-None.ensures.first ∙ ap (λ n. first_of (page_breaks heads.sources n c.args.bytes.now)) count) in
     let made : List PageCluster → Page = λ cs. record { number = c.args.page; clusters = cs } in
     let same = ap made (c.of-clusters.ensures ∙ c.in_ok-items-in-None.ensures.clusters
     ∙ ap (λ cs. clusters_of heads cs c.args.bytes.now)
-        (c.deref-in-None.ensures.value ∙ c.in_ok-numbers.ensures.clusters)) in
+    (c.deref-in-None.ensures.value ∙ c.in_ok-numbers.ensures.clusters)) in
     let P : Page → Type 0 = λ found. FitsPage heads found in
     subst P (sym same) (FitsPage-read heads c.args.page c.args.bytes.now none)

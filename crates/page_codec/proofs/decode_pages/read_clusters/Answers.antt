@@ -21,11 +21,16 @@ clusters-preserved c =
     let made : List Tagged → PageCluster = λ tris. record { number = n; tris = tris } in
     record {
       room =
-          rw c.as_slice-all.ensures (omega (arith, left, c.clusters.invariant.room, length-take {A = ℕ},
-          length-drop {A = ℕ}));
+          rw c.as_slice-all.ensures (omega (
+            arith,
+            left,
+            c.clusters.invariant.room,
+            length-take {A = ℕ},
+            length-drop {A = ℕ},
+          ));
       all =
           rw c.as_slice-all.ensures (clusters_of-step heads c.args.clusters.now i n count rest _ c.clusters.items.items
           c.push.new.self.items _ (made c.of-tris.result) c.clusters-test.true refl refl
           (ap made (c.of-tris.ensures ∙ (rw c.as_slice-all.ensures at read)))
-              (take_rest rest (40 * count)) c.in_ok-push.ensures.items c.clusters.invariant.all);
+          (take_rest rest (40 * count)) c.in_ok-push.ensures.items c.clusters.invariant.all);
     }

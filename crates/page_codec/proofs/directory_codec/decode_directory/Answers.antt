@@ -16,11 +16,11 @@ returns-in_ok-digests-in-None-clause-spelling c =
     let bytes = c.args.bytes.now in
     let counts = c.args.counts.now in
     ap (λ heads. directory_bytes (record { heads = heads; digests = c.in_ok-digests-in-None.digests }))
-        c.in_ok-heads-in-None.ensures.heads
+    c.in_ok-heads-in-None.ensures.heads
     ∙ ap (λ digests. directory_bytes (record { heads = heads_of counts bytes; digests = digests }))
-        c.in_ok-digests-in-None.ensures.digests
+    c.in_ok-digests-in-None.ensures.digests
     ∙ directory_bytes-read counts bytes c.requires.length (λ i. omega (arith, c.type_inv.bytes i))
-        (sym c.in-None.ensures.first)
+    (sym c.in-None.ensures.first)
 
 pub returns-in_ok-digests-in-None-clause-counts : goal.returns-in_ok-digests-in-None-clause-counts
 returns-in_ok-digests-in-None-clause-counts c =
@@ -33,9 +33,9 @@ returns-in_ok-digests-in-None-clause-fits c =
     let counts = c.args.counts.now in
     let with_heads : Heads → Directory = λ heads. record { heads = heads; digests = c.in_ok-digests-in-None.digests } in
     let with_digests : List Digest32 → Directory =
-        λ digests. record { heads = heads_of counts bytes; digests = digests } in
+    λ digests. record { heads = heads_of counts bytes; digests = digests } in
     let same =
-        ap with_heads c.in_ok-heads-in-None.ensures.heads ∙ ap with_digests c.in_ok-digests-in-None.ensures.digests in
+    ap with_heads c.in_ok-heads-in-None.ensures.heads ∙ ap with_digests c.in_ok-digests-in-None.ensures.digests in
     let P : Directory → Type 0 = λ found. FitsDirectory found in
     subst P (sym same) (FitsDirectory-read counts bytes c.requires.counts c.requires.length
-        (sym c.in-None.ensures.first))
+    (sym c.in-None.ensures.first))

@@ -1,9 +1,8 @@
 use Rattle.std.proofs.Common.{◌≡◌, ◌+◌, ◌-◌, ◌<◌, ◌≤◌, ◌++◌, length, take, sym, ap, ◌∙◌, arith}
 use Rattle.std.proofs.lemmas.List.{append-nil}
 use Rattle.page_codec.specs.Spelling.{cluster_bytes}
-use Rattle.page_codec.proofs.ClusterBytes.{
-  length-triangle_bytes, length-cluster_bytes, cluster_bytes-more, written-more, length-put_mid,
-}
+use Rattle.page_codec.proofs.ClusterBytes.{length-triangle_bytes, length-cluster_bytes, cluster_bytes-more}
+use Rattle.page_codec.proofs.ClusterBytes.{written-more, length-put_mid}
 use Rattle.page_codec.proofs.encode_pages.write_cluster.Goals as goal
 
 pub triangles-init : goal.triangles-init
@@ -25,7 +24,7 @@ triangles-preserved c =
     let is = c.copy_from_slice.ensures.after ∙ c.triangle_record.ensures.spelling in
     let len : length part ≡ end + 40 - end = ap length is ∙ length-triangle_bytes _ ∙ omega arith in
     let within : end + (end + 40 - end) ≤ length into =
-        omega (arith, c.triangles.invariant.place, c.triangles.invariant.room) in
+    omega (arith, c.triangles.invariant.place, c.triangles.invariant.room) in
     record {
       place = omega (arith, c.triangles.invariant.place);
       room = omega (arith, c.triangles.invariant.room, length-put_mid end (end + 40 - end) into part within len);

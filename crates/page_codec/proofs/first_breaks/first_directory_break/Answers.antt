@@ -18,7 +18,7 @@ returns c =
     record {
       first = c.first_break-2.ensures.first
           ∙ ap (λ rest. first_of (breaks_in (λ bytes. head_rules counts (head_of bytes)) 8 end counts.clusters rest))
-              (take_rest bytes end)
+          (take_rest bytes end)
           ∙ sym (first-append-none _ (breaks_in (λ bytes. head_rules counts (head_of bytes)) 8 end counts.clusters
-              (drop end bytes)) c.in_default.ensures.first);
+          (drop end bytes)) c.in_default.ensures.first);
     }

@@ -16,6 +16,6 @@ returns c =
     record {
       first = c.first_break-2.ensures.first
           ∙ ap (λ tail. first_of (breaks_in (λ byte. unless (slice_index byte 0 == 0) 4) 1 end (length tail) tail))
-              (take_rest bytes end)
+          (take_rest bytes end)
           ∙ sym (first-append-none _ (tail_breaks end (drop end bytes)) c.in_default.ensures.first);
     }

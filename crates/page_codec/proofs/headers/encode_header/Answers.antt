@@ -18,6 +18,10 @@ returns c =
       header =
           header-joined c.copy_from_slice.new.self (replicate 24 0)
           (replicate 32 0) c.copy_from_slice-2.new.self c.copy_from_slice-3.new.self front refl refl counts
-          ∙ rw (c.copy_from_slice.ensures.after, c.copy_from_slice-2.ensures.after, c.copy_from_slice-3.ensures.after,
-              c.counts_record.ensures.spelling) refl;
+          ∙ rw (
+            c.copy_from_slice.ensures.after,
+            c.copy_from_slice-2.ensures.after,
+            c.copy_from_slice-3.ensures.after,
+            c.counts_record.ensures.spelling,
+          ) refl;
     }

@@ -11,8 +11,8 @@ groups-init c =
     let groups = c.args.heads.now.groups in
     let P : ℕ → Type 0 = λ n. IsNext groups c.args.page 0 n in
     let walk =
-        subst P (sym c.first_group-g.ensures.group)
-        (IsNext-next_on groups c.args.page (length groups) 0 (omega arith)) in
+    subst P (sym c.first_group-g.ensures.group)
+    (IsNext-next_on groups c.args.page (length groups) 0 (omega arith)) in
     record {
       within = walk.within;
       here = walk.here;
@@ -28,8 +28,8 @@ groups-smaller c =
     let below : g < length groups = rw c.as_slice-groups.ensures at c.groups-test.true in
     let P : ℕ → Type 0 = λ n. IsNext groups (get_or groups g no_group).page (g + 1) n in
     let walk =
-        subst P (sym c.next_group-g.ensures.group)
-        (IsNext-next_on groups (get_or groups g no_group).page (length groups - (g + 1)) (g + 1) (omega arith)) in
+    subst P (sym c.next_group-g.ensures.group)
+    (IsNext-next_on groups (get_or groups g no_group).page (length groups - (g + 1)) (g + 1) (omega arith)) in
     omega (arith, walk.from, below)
 
 pub groups-preserved : goal.groups-preserved
@@ -42,7 +42,7 @@ groups-preserved c =
     let P : ℕ → Type 0 = λ n. IsNext groups page (g + 1) n in
     let next = c.next_group-g.ensures.group in
     let walk =
-        subst P (sym (rw here at next)) (IsNext-next_on groups page (length groups - (g + 1)) (g + 1) (omega arith)) in
+    subst P (sym (rw here at next)) (IsNext-next_on groups page (length groups - (g + 1)) (g + 1) (omega arith)) in
     let appended = c.in_ok-push_range.ensures.appended in
     record {
       within = walk.within;

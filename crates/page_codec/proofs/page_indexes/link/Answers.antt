@@ -23,7 +23,7 @@ groups-preserved c =
     let nexts : ℕ → Type 0 = λ n. NextsLinked groups c.groups.nexts n in
     let linked = subst firsts after c.groups.invariant.first in
     let within : (get_or groups g no_group).page < length c.groups.firsts =
-        omega (arith, c.requires.pages g no_group below, c.groups.auto.firsts) in
+    omega (arith, c.requires.pages g no_group below, c.groups.auto.firsts) in
     record {
       left = omega (arith, c.groups.invariant.left);
       first = FirstsLinked-more groups c.groups.firsts g below within linked;

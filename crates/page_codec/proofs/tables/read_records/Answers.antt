@@ -8,8 +8,12 @@ records-preserved g c =
     let below : c.records.k < c.args.count = omega arith in
     record {
       room =
-          omega (arith, left-more size c.args.count c.records.k below, c.split_at.ensures.back_len,
-          c.size.ensures.size);
+          omega (
+            arith,
+            left-more size c.args.count c.records.k below,
+            c.split_at.ensures.back_len,
+            c.size.ensures.size,
+          );
       all =
           records-step g.R.Record.reads size c.args.count c.records.k c.records.rest.now c.split_at.result.0.now
           c.split_at.result.1.now c.records.items.items c.push.new.self.items _ c.read.result below

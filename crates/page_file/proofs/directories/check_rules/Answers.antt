@@ -10,4 +10,4 @@ pub returns-in-Err-Rule-clause-refused : goal.returns-in-Err-Rule-clause-refused
 returns-in-Err-Rule-clause-refused c =
     rules-broken c.args.heads.now c.in-Err-Rule.number c.in-Err-Rule.index
     (c.in-Err-Rule.ensures.first_break c.in-Err-Rule.number c.in-Err-Rule.index
-        (ap (λ (fault : CheckFault). Err fault) c.in-Err-Rule.field-0-is))
+    (ap (λ (fault : CheckFault). Err fault) c.in-Err-Rule.field-0-is))

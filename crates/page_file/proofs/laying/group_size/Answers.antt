@@ -9,15 +9,15 @@ count_tris-requires-clause-member_range c =
 pub returns-clause-some_triangle : goal.returns-clause-some_triangle
 returns-clause-some_triangle c =
     let is =
-        group_size-is c.args.heads.now c.as_slice.result.now c.args.g c.count_tris.result c.as_slice.ensures
-        c.count_tris.ensures.size in
+    group_size-is c.args.heads.now c.as_slice.result.now c.args.g c.count_tris.result c.as_slice.ensures
+    c.count_tris.ensures.size in
     let bounds = group_size-bounds c.args.heads.now c.requires.range c.requires.rules c.args.g c.requires.group_range in
     omega (arith, is, bounds.0)
 
 pub returns-clause-size_limit : goal.returns-clause-size_limit
 returns-clause-size_limit c =
     let is =
-        group_size-is c.args.heads.now c.as_slice.result.now c.args.g c.count_tris.result c.as_slice.ensures
-        c.count_tris.ensures.size in
+    group_size-is c.args.heads.now c.as_slice.result.now c.args.g c.count_tris.result c.as_slice.ensures
+    c.count_tris.ensures.size in
     let bounds = group_size-bounds c.args.heads.now c.requires.range c.requires.rules c.args.g c.requires.group_range in
     omega (arith, is, bounds.1)

@@ -5,10 +5,8 @@ use Rattle.dag_core.proofs.RangeLaws.{sizes_of}
 use Rattle.page_file.specs.declared.fillings.Filling.{Filling}
 use Rattle.page_file.specs.PagesRule.{is_terminal}
 use Rattle.page_file.proofs.LaidGroups.{page-root, page-other, laid-more}
-use Rattle.page_file.proofs.NextFit.{
-  root_part-is, other_part-is, page_begun, root-none, other-none-at, root-place, root-pass, other-place, other-pass,
-  root_count-le, page_count-is,
-}
+use Rattle.page_file.proofs.NextFit.{root_part-is, other_part-is, page_begun, root-none, other-none-at, root-place}
+use Rattle.page_file.proofs.NextFit.{root-pass, other-place, other-pass, root_count-le, page_count-is}
 use Rattle.page_file.proofs.laying.lay_groups.Goals.{then-group, else-group}
 use Rattle.page_file.proofs.laying.lay_groups.Goals as goal
 
@@ -30,7 +28,7 @@ place-page-requires-clause-page_limit c =
 pub place-page-requires-clause-room_of_a_page : goal.place-page-requires-clause-room_of_a_page
 place-page-requires-clause-room_of_a_page c =
     page_begun 0 c.groups.g c.groups.root (root_part-is c.args.heads.now c.groups.g c.groups.root
-        c.groups.invariant.root)
+    c.groups.invariant.root)
 
 pub place-page-requires-else-group-clause-page_limit : goal.place-page-requires-else-group-clause-page_limit
 place-page-requires-else-group-clause-page_limit c =
@@ -56,14 +54,14 @@ groups-preserved c =
       | then-group w ↦
           let terminal = sym listed ∙ w.if-group.true in
           let root =
-              root-place heads g c.groups.root c.if-group.root size c.groups.invariant.root terminal
-              c.group_size-size.ensures.size (w.root-is ∙ w.place-page.ensures.placed) in
+          root-place heads g c.groups.root c.if-group.root size c.groups.invariant.root terminal
+          c.group_size-size.ensures.size (w.root-is ∙ w.place-page.ensures.placed) in
           record {
             laid =
                 laid-more heads c.as_slice-groups.result.now c.groups.laid.items c.push.new.self.items g c.if-group.page
                 c.as_slice-groups.ensures
                 (page-root heads g c.if-group.page c.if-group.root terminal root
-                    (w.page-is ∙ w.place-page.ensures.page ∙ sym (ap (λ (f : Filling). f.begun - 1) w.root-is)))
+                (w.page-is ∙ w.place-page.ensures.page ∙ sym (ap (λ (f : Filling). f.begun - 1) w.root-is)))
                 c.groups.invariant.laid c.in_ok-push.ensures.items;
             root = root;
             other = w.other-is ∙ other-pass heads g c.groups.other c.groups.invariant.other terminal;
@@ -71,15 +69,15 @@ groups-preserved c =
       | else-group w ↦
           let terminal = sym listed ∙ w.if-group.false in
           let other =
-              other-place heads g c.groups.other c.if-group.other size c.groups.invariant.other terminal
-              c.group_size-size.ensures.size (w.other-is ∙ w.place-page-else-group.ensures.placed) in
+          other-place heads g c.groups.other c.if-group.other size c.groups.invariant.other terminal
+          c.group_size-size.ensures.size (w.other-is ∙ w.place-page-else-group.ensures.placed) in
           record {
             laid =
                 laid-more heads c.as_slice-groups.result.now c.groups.laid.items c.push.new.self.items g c.if-group.page
                 c.as_slice-groups.ensures
                 (page-other heads g c.if-group.page c.if-group.other terminal other
-                    (w.page-is ∙ w.place-page-else-group.ensures.page ∙
-                    sym (ap (λ (f : Filling). f.begun - 1) w.other-is)))
+                (w.page-is ∙ w.place-page-else-group.ensures.page ∙
+                sym (ap (λ (f : Filling). f.begun - 1) w.other-is)))
                 c.groups.invariant.laid c.in_ok-push.ensures.items;
             root = w.root-is ∙ root-pass heads g c.groups.root c.groups.invariant.root terminal;
             other = other;
@@ -90,4 +88,4 @@ pub returns-clause-pages : goal.returns-clause-pages
 returns-clause-pages c =
     let len = ap length c.as_slice-groups.ensures in
     page_count-is c.args.heads.now c.groups.g c.groups.other c.groups.invariant.other
-        (omega (arith, len, c.groups-test.false, c.groups.auto.g-end))
+    (omega (arith, len, c.groups-test.false, c.groups.auto.g-end))

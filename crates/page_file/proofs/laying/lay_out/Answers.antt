@@ -8,5 +8,5 @@ returns-clause-laid_out c =
     let dag = c.args.dag in
     let groups = c.of.ensures ∙ c.in_ok-groups.ensures.groups in
     subst IsLaidOut
-        (sym (laid_parts dag c.of.result c.in_ok-groups.field-0.pages c.root_count-roots.result groups
-        c.in_ok-groups.ensures.pages c.root_count-roots.ensures.roots)) (laid_dag dag c.requires.rules)
+    (sym (laid_parts dag c.of.result c.in_ok-groups.field-0.pages c.root_count-roots.result groups
+    c.in_ok-groups.ensures.pages c.root_count-roots.ensures.roots)) (laid_dag dag c.requires.rules)

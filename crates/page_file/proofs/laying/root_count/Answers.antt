@@ -21,7 +21,7 @@ place-requires-clause-page_limit c =
 pub place-requires-clause-room_of_a_page : goal.place-requires-clause-room_of_a_page
 place-requires-clause-room_of_a_page c =
     page_begun 0 c.groups.g c.groups.filling
-        (root_part-is c.args.heads.now c.groups.g c.groups.filling c.groups.invariant)
+    (root_part-is c.args.heads.now c.groups.g c.groups.filling c.groups.invariant)
 
 pub groups-preserved : goal.groups-preserved
 groups-preserved c =
@@ -32,7 +32,7 @@ groups-preserved c =
     elim c.if-groups-g.branch [
       | then-groups-g w ↦
           root-place heads g c.groups.filling c.if-groups-g.filling w.group_size.result c.groups.invariant
-              (sym listed ∙ w.if-groups-g.true) w.group_size.ensures.size
+          (sym listed ∙ w.if-groups-g.true) w.group_size.ensures.size
           (w.filling-is ∙ w.place.ensures.placed)
       | else-groups-g w ↦ w.filling-is ∙ root-pass heads g c.groups.filling c.groups.invariant
           (sym listed ∙ w.if-groups-g.false)

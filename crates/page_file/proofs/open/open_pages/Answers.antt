@@ -18,7 +18,7 @@ returns-in_err-directory-clause-refused g c =
     let fault = c.in_err-directory.field-0.0 in
     handed c.from_residual.result (Refuses root_pages known before now) fault c.from_residual.ensures
     (step-opening known 0 directory_opened root_pages before now fault
-        (opening-stops known root_pages fault) c.in_err-directory.ensures.refused)
+    (opening-stops known root_pages fault) c.in_err-directory.ensures.refused)
 
 pub returns-in_err-roots-clause-refused : goal.returns-in_err-roots-clause-refused
 returns-in_err-roots-clause-refused g c =
@@ -31,13 +31,13 @@ returns-in_err-roots-clause-refused g c =
     let step = pages_opened directory directory.heads.roots in
     let refused : StepRefused known at step before now fault =
     step-same known (g.P.PageSource.holds c.open_directory.new.src) at step before
-        (g.P.PageSource.faults c.open_directory.new.src) now fault
+    (g.P.PageSource.faults c.open_directory.new.src) now fault
     c.in_ok-directory.ensures.unchanged c.in_ok-directory.ensures.no_fault c.in_err-roots.ensures.refused in
     handed c.from_residual-in_err-roots.result
-        (Refuses root_pages known before now) fault c.from_residual-in_err-roots.ensures
+    (Refuses root_pages known before now) fault c.from_residual-in_err-roots.ensures
     (step-opening known at step root_pages before now fault
-        (λ answers. opening-goes-on known root_pages directory (Err fault) c.in_ok-directory.ensures.directory answers)
-        refused)
+    (λ answers. opening-goes-on known root_pages directory (Err fault) c.in_ok-directory.ensures.directory answers)
+    refused)
 
 pub returns-clause-opened : goal.returns-clause-opened
 returns-clause-opened g c =
@@ -47,20 +47,20 @@ returns-clause-opened g c =
     let step = pages_opened directory directory.heads.roots in
     let answers : Answers known at step (Ok c.in_ok-roots.roots.items) =
     subst (λ (known : Option (List ℕ)). Answers known at step (Ok c.in_ok-roots.roots.items))
-        c.in_ok-directory.ensures.unchanged c.in_ok-roots.ensures.pages in
+    c.in_ok-directory.ensures.unchanged c.in_ok-roots.ensures.pages in
     subst (λ (pages : List Page). Opens root_pages known (Ok (record { directory = directory; roots = pages })))
-        (sym c.of.ensures)
+    (sym c.of.ensures)
     (opening-goes-on known root_pages directory
-        (Ok c.in_ok-roots.roots.items) c.in_ok-directory.ensures.directory answers)
+    (Ok c.in_ok-roots.roots.items) c.in_ok-directory.ensures.directory answers)
 
 pub returns-in_err-directory-clause-complete : goal.returns-in_err-directory-clause-complete
 returns-in_err-directory-clause-complete g c = λ bytes opened told is quiet.
     complete-from root_pages _ (g.P.PageSource.holds c.args.src.now) (g.P.PageSource.faults c.args.src.now)
-        (g.P.PageSource.faults c.open_directory.new.src) bytes opened told is quiet
-        (returns-in_err-directory-clause-refused g c)
+    (g.P.PageSource.faults c.open_directory.new.src) bytes opened told is quiet
+    (returns-in_err-directory-clause-refused g c)
 
 pub returns-in_err-roots-clause-complete : goal.returns-in_err-roots-clause-complete
 returns-in_err-roots-clause-complete g c = λ bytes opened told is quiet.
     complete-from root_pages _ (g.P.PageSource.holds c.args.src.now) (g.P.PageSource.faults c.args.src.now)
-        (g.P.PageSource.faults c.open_first_pages.new.src) bytes opened told is quiet
-        (returns-in_err-roots-clause-refused g c)
+    (g.P.PageSource.faults c.open_first_pages.new.src) bytes opened told is quiet
+    (returns-in_err-roots-clause-refused g c)

@@ -7,7 +7,7 @@ returns-in-Short-clause-refused g c =
     let n = c.in-Short.count in
     let buffer = c.read.new.into in
     let size : length (take n buffer) ≡ n =
-        length-take-le n buffer (omega (arith, c.in-Short.ensures.outcome.fewer)) in record {
+    length-take-le n buffer (omega (arith, c.in-Short.ensures.outcome.fewer)) in record {
       rest = take n buffer;
       fewer = omega (arith, size, c.in-Short.ensures.outcome.fewer);
       count_is = omega (arith, size);

@@ -20,11 +20,11 @@ returns-then-not-put_all-clause-stopped g c =
     let text = page_bytes (page_in dag p) in
     let rest = flat_map (λ q. page_bytes (page_in dag q)) (range_with_len (p + 1) (dag.heads.pages - (p + 1))) in
     let here =
-        stops-all v u _ _ _ _ c.encode_page_by.new.into text c.encode_page_by.ensures.page
-        c.if-not-put_all.ensures.prefix c.if-not-put_all.ensures.cause in
+    stops-all v u _ _ _ _ c.encode_page_by.new.into text c.encode_page_by.ensures.page
+    c.if-not-put_all.ensures.prefix c.if-not-put_all.ensures.cause in
     let so_far = stops-later w v u _ _ _ (pages_bytes dag p) text c.pages.invariant here in
     subst (StopsPutting w u (g.K.Sink.faults c.args.out.now) (g.K.Sink.faults c.put_all.new.out))
-        (pages-rest dag p dag.heads.pages c.pages-test.true)
+    (pages-rest dag p dag.heads.pages c.pages-test.true)
     (stops-early w u _ _ (pages_bytes dag p ++ text) rest so_far)
 
 pub pages-preserved : goal.pages-preserved
@@ -36,7 +36,7 @@ pages-preserved g c =
     let u = g.K.Sink.written c.put_all.new.out in
     let text = page_bytes (page_in dag p) in
     let here =
-        puts-all v u _ _ _ _ c.encode_page_by.new.into text c.encode_page_by.ensures.page
-        c.if-not-put_all.ensures.appended c.if-not-put_all.ensures.no_fault in
+    puts-all v u _ _ _ _ c.encode_page_by.new.into text c.encode_page_by.ensures.page
+    c.if-not-put_all.ensures.appended c.if-not-put_all.ensures.no_fault in
     subst (PutsText w u (g.K.Sink.faults c.args.out.now) (g.K.Sink.faults c.put_all.new.out)) (pages-more dag p)
     (puts-more w v u _ _ _ (pages_bytes dag p) text c.pages.invariant here)

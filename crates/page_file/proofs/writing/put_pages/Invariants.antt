@@ -6,4 +6,4 @@ use Rattle.page_file.proofs.writing.put_pages.Given as goal
 abbrev pub invariant-pages : goal.invariant-pages
 invariant-pages g l =
     PutsText (g.K.Sink.written l.fn.out) (g.K.Sink.written l.out) (g.K.Sink.faults l.fn.out) (g.K.Sink.faults l.out)
-        (pages_bytes l.dag l.p)
+    (pages_bytes l.dag l.p)

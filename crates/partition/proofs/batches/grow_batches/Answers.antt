@@ -11,7 +11,7 @@ numbers_at-requires c =
 pub split_into_batches-requires-clause-item_limit : goal.split_into_batches-requires-clause-item_limit
 split_into_batches-requires-clause-item_limit c =
     let ranks : length c.in_ok-ranks.ranks.items ≡ length c.args.order.now =
-        (grown_from _ _ _ _ _ c.in_ok-ranks.ensures).all in
+    (grown_from _ _ _ _ _ c.in_ok-ranks.ensures).all in
     let numbers : length c.in_ok-numbers.numbers.items ≡ length c.deref.result.now =
     ap length c.in_ok-numbers.ensures ∙ length-map c.deref.result.now (slice_index c.args.order.now) in
     let renumbered : length c.deref.result.now ≡ length c.in_ok-ranks.ranks.items = ap length c.deref.ensures.value in

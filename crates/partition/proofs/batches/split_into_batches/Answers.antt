@@ -11,9 +11,9 @@ loop-number-preserved c =
     c.in_ok-push.ensures.items
     ∙ (ap (λ xs. xs ++ c.in_ok-batch.batch ∷ []) c.loop-number.invariant
     ∙ (ap (λ b. map (slice_chunk c.args.numbers.now c.args.size) (range_with_len 0 c.loop-number.number) ++ b ∷ [])
-        c.in_ok-batch.ensures
+    c.in_ok-batch.ensures
     ∙ sym (map-range_with_len_more (slice_chunk c.args.numbers.now c.args.size) 0 c.loop-number.number
-        c.loop-number.number (zero-add c.loop-number.number))))
+    c.loop-number.number (zero-add c.loop-number.number))))
 
 pub returns : goal.returns
 unfolding batches_of

@@ -34,7 +34,7 @@ triangle_uses-requires-clause-number_range c =
     let P : ℕ → Type 0 = λ n. All (λ i. i < n) c.in_ok-order.order.items in
     let Q : List ℕ → Type 0 = λ xs. All (λ i. i < length c.args.tris.now) xs in
     subst Q (sym c.deref-2.ensures.value) (subst P (length-map c.args.tris.now triangle_key)
-        (All-ranking (map triangle_key c.args.tris.now) c.in_ok-order.order.items h))
+    (All-ranking (map triangle_key c.args.tris.now) c.in_ok-order.order.items h))
 
 pub grow_batches-requires-clause-item_limit : goal.grow_batches-requires-clause-item_limit
 grow_batches-requires-clause-item_limit c =
@@ -46,11 +46,15 @@ grow_batches-requires-clause-rank_range c =
     let items = in_order (map edges_of c.args.tris.now) c.deref-2.result.now in
     let item : ℕ → List (Pt × Pt) = λ number. slice_index_or (map edges_of c.args.tris.now) number [] in
     let len : 0 + length (in_order (map edges_of c.args.tris.now) c.deref-2.result.now) ≡ length c.deref-3.result.now =
-    omega (arith, length-map c.deref-2.result.now item, ap length c.deref-2.ensures.value,
-        ap length c.deref-3.ensures.value) in
+    omega (
+      arith,
+      length-map c.deref-2.result.now item,
+      ap length c.deref-2.ensures.value,
+      ap length c.deref-3.ensures.value,
+    ) in
     let P : List EdgeUse → Type 0 = λ xs. All (IsUseBelow (length c.deref-3.result.now)) xs in
     subst P (sym c.in_ok-uses.ensures) (All-uses_from 0 (length c.deref-3.result.now)
-        (in_order (map edges_of c.args.tris.now) c.deref-2.result.now) (omega arith))
+    (in_order (map edges_of c.args.tris.now) c.deref-2.result.now) (omega arith))
 
 pub returns : goal.returns
 returns c =
@@ -59,10 +63,10 @@ returns c =
     let P : List ℕ → Type 0 = λ xs. IsRanking (map triangle_key c.args.tris.now) xs in
     let same : c.deref-2.result.now ≡ c.deref-3.result.now = c.deref-2.ensures.value ∙ sym c.deref-3.ensures.value in
     IfOk-weaker c.grow_batches.result (λ batches. AreBatchesOfRanks c.deref-3.result.now c.in_ok-uses.uses.items
-        TRIANGLES_PER_CLUSTER batches.items) (λ clusters. AreClusters c.args.tris.now clusters.items)
+    TRIANGLES_PER_CLUSTER batches.items) (λ clusters. AreClusters c.args.tris.now clusters.items)
     (λ batches t. batches_from_renumbered (map triangle_key c.args.tris.now)
-        (map edges_of c.args.tris.now) c.deref-3.result.now c.in_ok-uses.uses.items TRIANGLES_PER_CLUSTER batches.items
-        (omega arith)
+    (map edges_of c.args.tris.now) c.deref-3.result.now c.in_ok-uses.uses.items TRIANGLES_PER_CLUSTER batches.items
+    (omega arith)
     (subst P (sym c.deref-3.ensures.value) h)
-        (c.in_ok-uses.ensures ∙ ap (λ xs. uses_from 0 (in_order (map edges_of c.args.tris.now) xs)) same) t)
+    (c.in_ok-uses.ensures ∙ ap (λ xs. uses_from 0 (in_order (map edges_of c.args.tris.now) xs)) same) t)
     c.grow_batches.ensures

@@ -14,13 +14,13 @@ returns c =
     let e = c.args.s.edge in
     let f = c.args.t.edge in
     let v : Bool =
-        int_eq c.args.s.edge.v.x c.args.t.edge.v.x &&
-        (int_eq c.args.s.edge.v.y c.args.t.edge.v.y && int_eq c.args.s.edge.v.z c.args.t.edge.v.z) in
+    int_eq c.args.s.edge.v.x c.args.t.edge.v.x &&
+    (int_eq c.args.s.edge.v.y c.args.t.edge.v.y && int_eq c.args.s.edge.v.z c.args.t.edge.v.z) in
     let u : Bool =
-        int_eq c.args.s.edge.u.x c.args.t.edge.u.x && int_eq c.args.s.edge.u.y c.args.t.edge.u.y && int_eq
-        c.args.s.edge.u.z c.args.t.edge.u.z in
+    int_eq c.args.s.edge.u.x c.args.t.edge.u.x && int_eq c.args.s.edge.u.y c.args.t.edge.u.y && int_eq
+    c.args.s.edge.u.z c.args.t.edge.u.z in
     c.eq.ensures
     ∙ (ap (λ b. b && v) (regrouped (int_eq c.args.s.edge.u.x c.args.t.edge.u.x)
-        (int_eq c.args.s.edge.u.y c.args.t.edge.u.y) (int_eq c.args.s.edge.u.z c.args.t.edge.u.z))
+    (int_eq c.args.s.edge.u.y c.args.t.edge.u.y) (int_eq c.args.s.edge.u.z c.args.t.edge.u.z))
     ∙ ap (λ b. u && b) (regrouped (int_eq c.args.s.edge.v.x c.args.t.edge.v.x)
-        (int_eq c.args.s.edge.v.y c.args.t.edge.v.y) (int_eq c.args.s.edge.v.z c.args.t.edge.v.z)))
+    (int_eq c.args.s.edge.v.y c.args.t.edge.v.y) (int_eq c.args.s.edge.v.z c.args.t.edge.v.z)))

@@ -11,16 +11,16 @@ pub returns-then-le-clause-edge : goal.returns-then-le-clause-edge
 unfolding edge_of
 returns-then-le-clause-edge c =
     let e : is_le (point_cmp c.args.p c.args.q) ≡ true =
-        sym (partial_below (int_cmp c.args.p.x c.args.q.x) (int_cmp c.args.p.y c.args.q.y)
-        (int_cmp c.args.p.z c.args.q.z)) ∙ sym c.if-le.ensures in
+    sym (partial_below (int_cmp c.args.p.x c.args.q.x) (int_cmp c.args.p.y c.args.q.y)
+    (int_cmp c.args.p.z c.args.q.z)) ∙ sym c.if-le.ensures in
     sym (cond-true {A = Edge} (is_le (point_cmp c.args.p c.args.q)) (record { u = c.args.p; v = c.args.q })
-        (record { u = c.args.q; v = c.args.p }) e)
+    (record { u = c.args.q; v = c.args.p }) e)
 
 pub returns-else-le-clause-edge : goal.returns-else-le-clause-edge
 unfolding edge_of
 returns-else-le-clause-edge c =
     let e : is_le (point_cmp c.args.p c.args.q) ≡ false =
-        sym (partial_below (int_cmp c.args.p.x c.args.q.x) (int_cmp c.args.p.y c.args.q.y)
-        (int_cmp c.args.p.z c.args.q.z)) ∙ sym c.if-le.ensures in
+    sym (partial_below (int_cmp c.args.p.x c.args.q.x) (int_cmp c.args.p.y c.args.q.y)
+    (int_cmp c.args.p.z c.args.q.z)) ∙ sym c.if-le.ensures in
     sym (cond-false {A = Edge} (is_le (point_cmp c.args.p c.args.q)) (record { u = c.args.p; v = c.args.q })
-        (record { u = c.args.q; v = c.args.p }) e)
+    (record { u = c.args.q; v = c.args.p }) e)

@@ -9,22 +9,22 @@ of-requires c =
     let P : List ℕ → Type 0 = λ xs. AreStarts xs c.in_ok-starts.starts.items in
     let Q : List ℕ → Type 0 = λ xs. AreStarts (ranks_in c.args.uses.now) xs in
     subst P (sym c.in_ok-items.ensures) (subst Q (sym c.in_ok-starts.ensures)
-        (are_starts c.args.uses.now (edge_starts c.args.uses.now) (cuts c.args.uses.now)))
+    (are_starts c.args.uses.now (edge_starts c.args.uses.now) (cuts c.args.uses.now)))
 
 pub returns-clause-adjacency : goal.returns-clause-adjacency
 returns-clause-adjacency c = λ i j.
     let s = c.args.uses.now in
     let is : c.of.result ≡ shared_edges_of (ranks_in c.args.uses.now) (edge_starts c.args.uses.now) =
     c.of.ensures ∙ (ap (λ xs. shared_edges_of xs c.in_ok-starts.starts.items) c.in_ok-items.ensures ∙
-        ap (λ xs. shared_edges_of (ranks_in c.args.uses.now) xs) c.in_ok-starts.ensures) in
+    ap (λ xs. shared_edges_of (ranks_in c.args.uses.now) xs) c.in_ok-starts.ensures) in
     ap (λ r. are_adjacent r i j) is ∙ adjacent_both_ways c.args.uses.now (edge_starts c.args.uses.now)
-        (cuts c.args.uses.now) c.requires.in_order i j
+    (cuts c.args.uses.now) c.requires.in_order i j
 
 pub returns-clause-sound : goal.returns-clause-sound
 returns-clause-sound c =
     let is : c.of.result ≡ shared_edges_of (ranks_in c.args.uses.now) (edge_starts c.args.uses.now) =
     c.of.ensures ∙ (ap (λ xs. shared_edges_of xs c.in_ok-starts.starts.items) c.in_ok-items.ensures ∙
-        ap (λ xs. shared_edges_of (ranks_in c.args.uses.now) xs) c.in_ok-starts.ensures) in
+    ap (λ xs. shared_edges_of (ranks_in c.args.uses.now) xs) c.in_ok-starts.ensures) in
     let P : List (List ℕ) → Type 0 = λ shared. All (IsSharedEdge c.args.count) shared in
     subst P (sym is) (are_shared_edges c.args.uses.now (edge_starts c.args.uses.now) c.args.count
-        (cuts c.args.uses.now) c.requires.in_order c.requires.rank_range)
+    (cuts c.args.uses.now) c.requires.in_order c.requires.rank_range)

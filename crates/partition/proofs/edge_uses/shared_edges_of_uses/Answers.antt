@@ -15,13 +15,13 @@ pub shared_edges_in_order-requires-clause-rank_range : goal.shared_edges_in_orde
 shared_edges_in_order-requires-clause-rank_range c =
     let P : List EdgeUse → Type 0 = λ xs. All (IsUseBelow c.args.count) xs in
     subst P (sym c.deref.ensures.value) (All-permutation
-        (IsUseBelow c.args.count) c.args.uses.items c.sort_uses.new.uses.items c.sort_uses.ensures.all c.requires)
+    (IsUseBelow c.args.count) c.args.uses.items c.sort_uses.new.uses.items c.sort_uses.ensures.all c.requires)
 
 pub returns-clause-adjacency : goal.returns-clause-adjacency
 returns-clause-adjacency c =
     IfOk-weaker c.shared_edges_in_order.result
-        (λ shared. (i j : ℕ) → are_adjacent shared i j ≡ are_adjacent_in c.deref.result.now i j)
-        (λ shared. (i j : ℕ) → are_adjacent shared i j ≡ are_adjacent_in c.args.uses.items i j)
+    (λ shared. (i j : ℕ) → are_adjacent shared i j ≡ are_adjacent_in c.deref.result.now i j)
+    (λ shared. (i j : ℕ) → are_adjacent shared i j ≡ are_adjacent_in c.args.uses.items i j)
     (λ shared f i j. f i j ∙ (ap (λ s. are_adjacent_in s i j) c.deref.ensures.value ∙
-        sym (are_adjacent_in-IsPermutation c.args.uses.items c.sort_uses.new.uses.items i j c.sort_uses.ensures.all)))
+    sym (are_adjacent_in-IsPermutation c.args.uses.items c.sort_uses.new.uses.items i j c.sort_uses.ensures.all)))
     c.shared_edges_in_order.ensures.adjacency

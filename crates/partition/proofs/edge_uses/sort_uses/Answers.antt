@@ -7,5 +7,5 @@ pub returns-clause-in_order : goal.returns-clause-in_order
 returns-clause-in_order c =
     in_order_from_sorted c.sort_unstable.new.self.items
     (All-permutation HasEdgeKey c.args.uses.now.items c.sort_unstable.new.self.items c.sort_unstable.ensures.permutation
-        c.requires)
+    c.requires)
     c.sort_unstable.ensures.sorted

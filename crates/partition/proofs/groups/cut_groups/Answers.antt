@@ -34,7 +34,7 @@ shape_uses-requires-clause-number_range c =
     let P : ℕ → Type 0 = λ n. All (λ i. i < n) c.in_ok-order.order.items in
     let Q : List ℕ → Type 0 = λ xs. All (λ i. i < length c.args.shapes.now) xs in
     subst Q (sym c.deref-2.ensures.value) (subst P (length-map c.args.shapes.now shape_key)
-        (All-ranking (map shape_key c.args.shapes.now) c.in_ok-order.order.items h))
+    (All-ranking (map shape_key c.args.shapes.now) c.in_ok-order.order.items h))
 
 pub grow_batches-requires-clause-item_limit : goal.grow_batches-requires-clause-item_limit
 grow_batches-requires-clause-item_limit c =
@@ -46,12 +46,16 @@ grow_batches-requires-clause-rank_range c =
     let items = in_order (map rim_edges c.args.shapes.now) c.deref-2.result.now in
     let item : ℕ → List (Pt × Pt) = λ number. slice_index_or (map rim_edges c.args.shapes.now) number [] in
     let len : 0 + length (in_order (map rim_edges c.args.shapes.now) c.deref-2.result.now) ≡ length
-        c.deref-3.result.now =
-    omega (arith, length-map c.deref-2.result.now item, ap length c.deref-2.ensures.value,
-        ap length c.deref-3.ensures.value) in
+    c.deref-3.result.now =
+    omega (
+      arith,
+      length-map c.deref-2.result.now item,
+      ap length c.deref-2.ensures.value,
+      ap length c.deref-3.ensures.value,
+    ) in
     let P : List EdgeUse → Type 0 = λ xs. All (IsUseBelow (length c.deref-3.result.now)) xs in
     subst P (sym c.in_ok-uses.ensures) (All-uses_from 0 (length c.deref-3.result.now)
-        (in_order (map rim_edges c.args.shapes.now) c.deref-2.result.now) (omega arith))
+    (in_order (map rim_edges c.args.shapes.now) c.deref-2.result.now) (omega arith))
 
 pub returns : goal.returns
 returns c =
@@ -60,10 +64,10 @@ returns c =
     let P : List ℕ → Type 0 = λ xs. IsRanking (map shape_key c.args.shapes.now) xs in
     let same : c.deref-2.result.now ≡ c.deref-3.result.now = c.deref-2.ensures.value ∙ sym c.deref-3.ensures.value in
     IfOk-weaker c.grow_batches.result (λ batches. AreBatchesOfRanks c.deref-3.result.now c.in_ok-uses.uses.items
-        CLUSTERS_PER_GROUP batches.items) (λ groups. AreGroups c.args.shapes.now groups.items)
+    CLUSTERS_PER_GROUP batches.items) (λ groups. AreGroups c.args.shapes.now groups.items)
     (λ batches t. batches_from_renumbered (map shape_key c.args.shapes.now)
-        (map rim_edges c.args.shapes.now) c.deref-3.result.now c.in_ok-uses.uses.items CLUSTERS_PER_GROUP batches.items
-        (omega arith)
+    (map rim_edges c.args.shapes.now) c.deref-3.result.now c.in_ok-uses.uses.items CLUSTERS_PER_GROUP batches.items
+    (omega arith)
     (subst P (sym c.deref-3.ensures.value) h)
-        (c.in_ok-uses.ensures ∙ ap (λ xs. uses_from 0 (in_order (map rim_edges c.args.shapes.now) xs)) same) t)
+    (c.in_ok-uses.ensures ∙ ap (λ xs. uses_from 0 (in_order (map rim_edges c.args.shapes.now) xs)) same) t)
     c.grow_batches.ensures

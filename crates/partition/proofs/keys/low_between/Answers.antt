@@ -21,7 +21,10 @@ returns-clause-corner c =
     let ey = simp to_z-of_z at c.lesser-2.ensures.lesser in
     let ez = simp to_z-of_z at c.lesser-3.ensures.lesser in
     let low : Pt =
-        record { x = to_z w32 (of_z w32 c.lesser.result); y = to_z w32 (of_z w32 c.lesser-2.result); z =
-        to_z w32 (of_z w32 c.lesser-3.result) } in
+    record {
+      x = to_z w32 (of_z w32 c.lesser.result);
+      y = to_z w32 (of_z w32 c.lesser-2.result);
+      z = to_z w32 (of_z w32 c.lesser-3.result);
+    } in
     same_points low (low_of c.args.p c.args.q) (to_z-of_z w32 c.lesser.result x ∙ ex)
-        (to_z-of_z w32 c.lesser-2.result y ∙ ey) (to_z-of_z w32 c.lesser-3.result z ∙ ez)
+    (to_z-of_z w32 c.lesser-2.result y ∙ ey) (to_z-of_z w32 c.lesser-3.result z ∙ ez)

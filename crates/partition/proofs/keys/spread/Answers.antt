@@ -15,15 +15,28 @@ overflow_mul-result-2 c = omega (arith, table-below (c.args.bits / 128 / 128) (o
 
 pub overflow_add-result-2 : goal.overflow_add-result-2
 overflow_add-result-2 c =
-    omega (arith, table-below (c.args.bits % 128) (omega arith), table-below (c.args.bits / 128 % 128) (omega arith),
-        table-below (c.args.bits / 128 / 128) (omega arith))
+    omega (
+      arith,
+      table-below (c.args.bits % 128) (omega arith),
+      table-below (c.args.bits / 128 % 128) (omega arith),
+      table-below (c.args.bits / 128 / 128) (omega arith),
+    )
 
 pub returns-clause-spread : goal.returns-clause-spread
 returns-clause-spread c =
-    omega (arith, spread_bits_of_sevens c.args.bits c.requires, table_at (c.args.bits % 128) (omega arith),
-        table_at (c.args.bits / 128 % 128) (omega arith), table_at (c.args.bits / 128 / 128) (omega arith))
+    omega (
+      arith,
+      spread_bits_of_sevens c.args.bits c.requires,
+      table_at (c.args.bits % 128) (omega arith),
+      table_at (c.args.bits / 128 % 128) (omega arith),
+      table_at (c.args.bits / 128 / 128) (omega arith),
+    )
 
 pub returns-clause-spread_limit : goal.returns-clause-spread_limit
 returns-clause-spread_limit c =
-    omega (arith, table-below (c.args.bits % 128) (omega arith), table-below (c.args.bits / 128 % 128) (omega arith),
-        table-below (c.args.bits / 128 / 128) (omega arith))
+    omega (
+      arith,
+      table-below (c.args.bits % 128) (omega arith),
+      table-below (c.args.bits / 128 % 128) (omega arith),
+      table-below (c.args.bits / 128 / 128) (omega arith),
+    )

@@ -17,10 +17,10 @@ pub returns-clause-number_range : goal.returns-clause-number_range
 returns-clause-number_range g c shapes groups b =
     let P : ℕ → Type 0 = λ n. All (λ group. All (λ number. number < n) group) groups in
     subst P (length-map shapes shape_key) (numbers_below (map shape_key shapes)
-        (map rim_edges shapes) CLUSTERS_PER_GROUP groups b)
+    (map rim_edges shapes) CLUSTERS_PER_GROUP groups b)
 
 pub returns-clause-full : goal.returns-clause-full
 returns-clause-full g c shapes groups b =
     let P : ℕ → Type 0 = λ n. AreFullButLast CLUSTERS_PER_GROUP n groups in
     subst P (length-map shapes shape_key) (full_of_items (map shape_key shapes)
-        (map rim_edges shapes) CLUSTERS_PER_GROUP groups (omega arith) b)
+    (map rim_edges shapes) CLUSTERS_PER_GROUP groups (omega arith) b)

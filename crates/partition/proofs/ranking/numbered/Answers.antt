@@ -6,5 +6,5 @@ pub loop-number-preserved : goal.loop-number-preserved
 loop-number-preserved c =
     c.in_ok-push.ensures.items
     ∙ (ap (λ xs. xs ++ record { key = get_or c.args.keys.now c.loop-number.number 0; number = c.loop-number.number } ∷
-        []) c.loop-number.invariant
+    []) c.loop-number.invariant
     ∙ sym (keyed_more c.args.keys.now c.loop-number.number c.loop-number-test.true))

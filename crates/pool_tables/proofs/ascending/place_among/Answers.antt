@@ -6,4 +6,4 @@ use Rattle.pool_tables.proofs.ascending.place_among.Goals as goal
 pub returns-clause-absent : goal.returns-clause-absent
 returns-clause-absent c = λ none.
     sym (among-searched c.args.numbers.now c.args.number c.binary_search.result c.requires
-        c.binary_search.ensures.position) ∙ (sym c.ok.ensures.variant ∙ ap is_some none)
+    c.binary_search.ensures.position) ∙ (sym c.ok.ensures.variant ∙ ap is_some none)

@@ -11,4 +11,4 @@ returns-in-Some c =
     let w = c.ask.new.self in
     let at : get nat_cmp old c.args.frame.0 ≡ Some v = search rules in
     PutsItem-changed c.args.frame.0 (asked_item c.args.count) old (c.get_mut.follows.lender w) v w at c.ask.ensures
-        (c.get_mut.follows.holds w)
+    (c.get_mut.follows.holds w)

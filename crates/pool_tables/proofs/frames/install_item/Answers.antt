@@ -11,7 +11,7 @@ returns-in-Some-clause-installed c =
     let w = c.install.new.self in
     let at : get nat_cmp old c.args.frame.0 ≡ Some v = search rules in
     PutsItem-changed c.args.frame.0 (installed_item c.args.page) old
-        (c.get_mut.follows.lender w) v w at c.install.ensures.installed (c.get_mut.follows.holds w)
+    (c.get_mut.follows.lender w) v w at c.install.ensures.installed (c.get_mut.follows.holds w)
 
 pub returns-in-Some-clause-pins : goal.returns-in-Some-clause-pins
 returns-in-Some-clause-pins c = λ p.

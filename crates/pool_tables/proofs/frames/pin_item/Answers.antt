@@ -16,7 +16,7 @@ returns-in-Some-clause-pinned c =
     let w = c.pin_again.new.self in
     let at : get nat_cmp old c.args.frame.0 ≡ Some v = search rules in
     PutsItem-pinned c.args.frame.0 (pinned_item c.args.by c.args.count) old
-        (c.get_mut.follows.lender w) v w at c.pin_again.ensures (c.get_mut.follows.holds w)
+    (c.get_mut.follows.lender w) v w at c.pin_again.ensures (c.get_mut.follows.holds w)
 
 pub returns-clause-pinned : goal.returns-clause-pinned
 returns-clause-pinned c =
@@ -25,19 +25,24 @@ returns-clause-pinned c =
     let now = c.get_mut.follows.lender-at-none in
     let new = c.insert.new.self in
     let with_pins : PinLists → FrameItem =
-        λ pins. record { owner = c.args.by; asked_at = 0; ended_at = None; snapshot = Some c.args.count; pins =
-        pins } in
+    λ pins. record {
+      owner = c.args.by;
+      asked_at = 0;
+      ended_at = None;
+      snapshot = Some c.args.count;
+      pins = pins;
+    } in
     let w = with_pins c.none.result in
     let absent : get nat_cmp old c.args.frame.0 ≡ None = search rules in
     let at : get nat_cmp now c.args.frame.0 ≡ None =
-        ap (λ (x : BTreeMap ℕ FrameItem). get nat_cmp x c.args.frame.0) same_map ∙ absent in
+    ap (λ (x : BTreeMap ℕ FrameItem). get nat_cmp x c.args.frame.0) same_map ∙ absent in
     let done =
-        PutsItem-begun c.args.frame.0 (pinned_item c.args.by c.args.count) now new w at
-        (ap with_pins c.none.ensures) c.in_ok-insert.ensures.was_ordered c.in_ok-insert.ensures.ordered
-        c.in_ok-insert.ensures.updates c.in_ok-insert.ensures.entries in
+    PutsItem-begun c.args.frame.0 (pinned_item c.args.by c.args.count) now new w at
+    (ap with_pins c.none.ensures) c.in_ok-insert.ensures.was_ordered c.in_ok-insert.ensures.ordered
+    c.in_ok-insert.ensures.updates c.in_ok-insert.ensures.entries in
     subst (λ (x : BTreeMap ℕ FrameItem). PutsItem c.args.frame.0
-        (Some (pinned_item c.args.by c.args.count (item_in x.entries c.args.frame.0))) x.entries new.entries) same_map
-        done
+    (Some (pinned_item c.args.by c.args.count (item_in x.entries c.args.frame.0))) x.entries new.entries) same_map
+    done
 
 pub unpin_item-requires : goal.unpin_item-requires
 unpin_item-requires c =

@@ -10,8 +10,11 @@ pub pin-requires-clause-page_range : goal.pin-requires-clause-page_range
 pin-requires-clause-page_range c =
     let ps = c.args.pages.now in
     let k = c.loop-page.page-index in
-    omega (arith, c.loop-page.invariant.len,
-        c.requires.page_range (get_or ps k 0) (among-at ps k (get_or ps k 0) c.loop-page-test.true refl))
+    omega (
+      arith,
+      c.loop-page.invariant.len,
+      c.requires.page_range (get_or ps k 0) (among-at ps k (get_or ps k 0) c.loop-page-test.true refl),
+    )
 
 pub loop-page-preserved : goal.loop-page-preserved
 loop-page-preserved c =
@@ -22,10 +25,10 @@ loop-page-preserved c =
     let cur = c.loop-page.table in
     let inv = c.loop-page.invariant in
     let below : page < length cur.records =
-        omega (arith, inv.len, c.requires.page_range page (among-at ps k page c.loop-page-test.true refl)) in
+    omega (arith, inv.len, c.requires.page_range page (among-at ps k page c.loop-page-test.true refl)) in
     let pins = (record_at cur.records page).pins + 1 in
     let here : pins + times (drop (k + 1) ps) page ≡ (record_at old.records page).pins + times ps page =
-        omega (arith, inv.pins page, times-here ps k c.loop-page-test.true) in
+    omega (arith, inv.pins page, times-here ps k c.loop-page-test.true) in
     subst (λ (t : PageRecords). MovesPins (times (drop (k + 1) ps)) (times ps) old t) (sym c.pin.ensures)
     (MovesPins-step (times (drop k ps)) (times ps) (times (drop (k + 1) ps)) (times ps) old cur page pins inv below
-        (λ p other. sym (times-other ps k p c.loop-page-test.true other)) (λ p other. refl) here)
+    (λ p other. sym (times-other ps k p c.loop-page-test.true other)) (λ p other. refl) here)

@@ -12,7 +12,7 @@ unpin-requires-clause-page_range c =
     let page = get_or ps k 0 in
     let cur = c.loop-page.table in
     let some : 0 < (record_at cur.records page).pins =
-        omega (arith, c.loop-page.invariant.pins page, times-here ps k c.loop-page-test.true, c.requires.pinned page) in
+    omega (arith, c.loop-page.invariant.pins page, times-here ps k c.loop-page-test.true, c.requires.pinned page) in
     pinned-below cur.records page some
 
 pub unpin-requires-clause-pinned : goal.unpin-requires-clause-pinned
@@ -31,11 +31,11 @@ loop-page-preserved c =
     let cur = c.loop-page.table in
     let inv = c.loop-page.invariant in
     let some : 0 < (record_at cur.records page).pins =
-        omega (arith, inv.pins page, times-here ps k c.loop-page-test.true, c.requires.pinned page) in
+    omega (arith, inv.pins page, times-here ps k c.loop-page-test.true, c.requires.pinned page) in
     let pins = (record_at cur.records page).pins - 1 in
     let here : pins + times ps page ≡ (record_at old.records page).pins + times (drop (k + 1) ps) page =
-        omega (arith, some, inv.pins page, times-here ps k c.loop-page-test.true) in
+    omega (arith, some, inv.pins page, times-here ps k c.loop-page-test.true) in
     subst (λ (t : PageRecords). MovesPins (times ps) (times (drop (k + 1) ps)) old t) (sym c.unpin.ensures)
     (MovesPins-step (times ps) (times (drop k ps)) (times ps) (times (drop (k + 1) ps)) old cur page pins inv
-        (pinned-below cur.records page some) (λ p other. refl)
-        (λ p other. sym (times-other ps k p c.loop-page-test.true other)) here)
+    (pinned-below cur.records page some) (λ p other. refl)
+    (λ p other. sym (times-other ps k p c.loop-page-test.true other)) here)

@@ -7,4 +7,4 @@ use Rattle.pool_tables.proofs.pin_moves.unpin_flagged.Given as goal
 abbrev pub invariant-loop-place : goal.invariant-loop-place
 invariant-loop-place l =
     MovesPins (times (flagged l.missing l.flags))
-        (times (flagged (drop l.place l.missing) (drop l.place l.flags))) l.initial.table l.table
+    (times (flagged (drop l.place l.missing) (drop l.place l.flags))) l.initial.table l.table

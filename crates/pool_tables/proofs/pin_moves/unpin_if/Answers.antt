@@ -9,6 +9,6 @@ returns-then-is_flagged c =
     let table = c.args.table.now in
     let page = c.args.page in
     let one =
-        subst (λ (t : PageRecords). MovesPins (λ p. cond (page == p) 1 0) (λ p. 0) table t) (sym c.unpin.ensures)
-        (MovesPins-one table page (c.requires.pinned c.if-is_flagged.true)) in
+    subst (λ (t : PageRecords). MovesPins (λ p. cond (page == p) 1 0) (λ p. 0) table t) (sym c.unpin.ensures)
+    (MovesPins-one table page (c.requires.pinned c.if-is_flagged.true)) in
     rw c.if-is_flagged.true one

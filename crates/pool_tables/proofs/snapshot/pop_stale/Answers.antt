@@ -12,5 +12,5 @@ stale-preserved c =
     let e : vec_len c.stale.snapshots - 1 ≡ length xs - 1 = omega (arith, c.stale.snapshots.ok.0) in
     let new : c.pop.new.self.items ≡ take (length xs - 1) xs = c.pop.ensures.rest ∙ ap (λ k. take k xs) e in
     subst (λ ys. AreListed items ys) (sym new)
-        (AreListed-front items xs c.in-Some.last c.stale.invariant at
-        (λ current. let no = c.if-is_current.ensures.stale current in cc))
+    (AreListed-front items xs c.in-Some.last c.stale.invariant at
+    (λ current. let no = c.if-is_current.ensures.stale current in cc))

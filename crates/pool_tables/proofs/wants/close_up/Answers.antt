@@ -11,5 +11,5 @@ returns-then-standing_count-len-clause-wants c =
     let ws = c.args.wants.now.items in
     let standing_now = rw c.deref.ensures.value at c.standing_count.ensures in
     let half : count_by (stands counts) ws ≤ length ws / 2 =
-        omega (arith, standing_now, c.len.ensures, c.args.wants.now.ok.0, c.if-standing_count-len.true) in
+    omega (arith, standing_now, c.len.ensures, c.args.wants.now.ok.0, c.if-standing_count-len.true) in
     filter_same _ _ _ (λ x b f' k. search rules) _ _ c.retain.ensures.filtered ∙ sym (closed_up-half counts ws half)

@@ -13,14 +13,14 @@ loop-queued-preserved c =
     let counts = counts_in c.args.pages.now.records c.args.frames.now in
     let test : Want → Bool = is_loading_in c.args.pages.now.records c.args.frame.0 in
     find-next counts test c.args.wants.now c.loop-queued.queued-index no_want
-        (find test (standing counts c.args.wants.now)) c.loop-queued-test.true
-        (sym c.is_loading.ensures ∙ c.if-is_loading.false) c.loop-queued.invariant
+    (find test (standing counts c.args.wants.now)) c.loop-queued-test.true
+    (sym c.is_loading.ensures ∙ c.if-is_loading.false) c.loop-queued.invariant
 
 pub returns-then-is_loading : goal.returns-then-is_loading
 returns-then-is_loading c =
     let counts = counts_in c.args.pages.now.records c.args.frames.now in
     let test : Want → Bool = is_loading_in c.args.pages.now.records c.args.frame.0 in
     ap (λ (w : Want). Some w) c.want.ensures ∙
-        find-found counts test c.args.wants.now c.loop-queued.queued-index no_want
-        (find test (standing counts c.args.wants.now)) c.loop-queued-test.true
-        (sym c.is_loading.ensures ∙ c.if-is_loading.true) c.loop-queued.invariant
+    find-found counts test c.args.wants.now c.loop-queued.queued-index no_want
+    (find test (standing counts c.args.wants.now)) c.loop-queued-test.true
+    (sym c.is_loading.ensures ∙ c.if-is_loading.true) c.loop-queued.invariant

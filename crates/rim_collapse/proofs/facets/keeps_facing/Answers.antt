@@ -3,9 +3,8 @@ use Rattle.std.specs.Prelude.{int_le}
 use Rattle.geom_core.specs.Collapses.{replaced}
 use Rattle.geom_core.specs.Limits.{has_distinct_corners}
 use Rattle.rim_collapse.specs.Normals.{dot, normal}
-use Rattle.rim_collapse.proofs.FacetLaws.{
-  HasGridCorners-replaced, back-wide, keeps_facing-left, keeps_facing-left_out, same_dot,
-}
+use Rattle.rim_collapse.proofs.FacetLaws.{HasGridCorners-replaced, back-wide, keeps_facing-left, keeps_facing-left_out}
+use Rattle.rim_collapse.proofs.FacetLaws.{same_dot}
 use Rattle.rim_collapse.proofs.facets.keeps_facing.Goals as goal
 
 pub normal-requires : goal.normal-requires

@@ -4,9 +4,8 @@ use Rattle.rim_collapse.specs.declared.keys.Key.{Key}
 use Rattle.rim_collapse.specs.Cost.{key_of}
 use Rattle.rim_collapse.specs.Internal.Bests.{beats}
 use Rattle.rim_collapse.specs.Internal.Facets.{facet_cost, tris_in}
-use Rattle.rim_collapse.proofs.BestLaws.{
-  best-kept, best-taken, cost-facets, edge-facets, legal-facets, source-grid, target-grid,
-}
+use Rattle.rim_collapse.proofs.BestLaws.{best-kept, best-taken, cost-facets, edge-facets, legal-facets, source-grid}
+use Rattle.rim_collapse.proofs.BestLaws.{target-grid}
 use Rattle.rim_collapse.proofs.Listed.{closed-illegal, closed-itself, key-is}
 use Rattle.rim_collapse.proofs.least.better.Goals as goal
 use Rattle.rim_collapse.proofs.least.better.Goals.{else-beats-via-then-beats+else-is_legal, else-beats-via-else-beats}
@@ -38,7 +37,7 @@ returns-then-is_legal c = λ tried was.
     cost-facets facets a b c.requires.facets) c.cheb.ensures.distance in
     best-taken (tris_in facets) a b tried c.args.best k is (sym c.beats.ensures ∙ c.if-beats.true)
     (and_from _ _ (edge-facets facets a b c.requires.facets
-        (sym c.is_same.ensures ∙ c.if-is_same.false) c.requires.corner)
+    (sym c.is_same.ensures ∙ c.if-is_same.false) c.requires.corner)
     (sym (c.is_legal.ensures ∙ legal-facets facets a b) ∙ c.if-is_legal.true)) was
 
 pub returns-else-beats : goal.returns-else-beats

@@ -24,5 +24,5 @@ pub returns : goal.returns
 returns c =
     least-all c.args.tris.now c.args.a c.least_of.result
     (subst (λ facets. IsBestOf (tris_in facets) c.args.a
-        (λ q. list_any (λ f. has_corner q f.tri) facets) c.least_of.result)
+    (λ q. list_any (λ f. has_corner q f.tri) facets) c.least_of.result)
     (c.deref.ensures.value ∙ c.in_ok-list_facets.ensures) c.least_of.ensures)

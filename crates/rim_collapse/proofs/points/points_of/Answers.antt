@@ -8,7 +8,7 @@ use Rattle.rim_collapse.proofs.points.points_of.Goals as goal
 points_are : (c : goal.After-dedup) → ArePointsOf (flat_map corners_of (tris_of c.args.tris.now)) c.dedup.new.self.items
 points_are c =
     points_from_sorted (flat_map corners_of (tris_of c.args.tris.now)) c.sort_unstable.new.self.items
-        c.dedup.new.self.items
+    c.dedup.new.self.items
     (rw c.in_ok-points.ensures at c.sort_unstable.ensures.permutation)
     c.sort_unstable.ensures.sorted c.dedup.ensures.filtered
 

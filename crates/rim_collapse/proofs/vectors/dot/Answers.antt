@@ -1,8 +1,7 @@
 use Rattle.std.proofs.Common.{◌^◌, ◌+ℤ◌, ◌*ℤ◌}
 use Rattle.rim_collapse.specs.Normals.{dot}
-use Rattle.rim_collapse.proofs.Products.{
-  normal-small, passed-product, same_sum, sum2-fits, sum2-is, sum2-size, sum3-fits, sum3-is, sum3-size,
-}
+use Rattle.rim_collapse.proofs.Products.{normal-small, passed-product, same_sum, sum2-fits, sum2-is, sum2-size}
+use Rattle.rim_collapse.proofs.Products.{sum3-fits, sum3-is, sum3-size}
 use Rattle.rim_collapse.proofs.vectors.dot.Goals as goal
 
 pub overflow_add-result : goal.overflow_add-result
@@ -44,4 +43,4 @@ returns-clause-size c =
       sum3-is (p +ℤ q) c.wide_times-3.result
           (sum2-size p q c.wide_times.ensures.size c.wide_times-2.ensures.size) c.wide_times-3.ensures.size,
     ) (sum3-size p q c.wide_times-3.result c.wide_times.ensures.size c.wide_times-2.ensures.size
-        c.wide_times-3.ensures.size)
+    c.wide_times-3.ensures.size)

@@ -6,4 +6,4 @@ use Rattle.shape_gen.proofs.lattice.push_layer.Given as goal
 abbrev pub invariant-loop-j : goal.invariant-loop-j
 invariant-loop-j l =
     l.places.items ≡ l.fn.places.items ++ filter (is_on_surface l.n)
-        (flat_map (row_places l.n l.i) (range_with_len 0 l.j))
+    (flat_map (row_places l.n l.i) (range_with_len 0 l.j))

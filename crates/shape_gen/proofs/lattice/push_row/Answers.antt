@@ -9,7 +9,7 @@ use Rattle.shape_gen.proofs.lattice.push_row.Goals.{then-is_on_surface+in_ok-pus
 pub loop-k-preserved : goal.loop-k-preserved
 loop-k-preserved c =
     tested_more (is_on_surface c.args.n) (place c.args.i c.args.j) c.args.places.now.items c.loop-k.places.items _
-        c.loop-k.k
+    c.loop-k.k
     c.is_on_surface.result c.loop-k.invariant c.is_on_surface.ensures
     (elim c.if-is_on_surface.branch [
       | then-is_on_surface+in_ok-push w ↦ rw (w.places-is, w.if-is_on_surface.true) (grind (arith, common_steps))

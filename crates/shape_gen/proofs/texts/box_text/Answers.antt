@@ -6,8 +6,13 @@ use Rattle.shape_gen.proofs.texts.box_text.Goals as goal
 
 pub overflow_mul-room : goal.overflow_mul-room
 overflow_mul-room c =
-    omega (arith, c.len.ensures, c.in_ok-places.places.ok, ap length c.in_ok-places.ensures,
-        length-lattice c.args.n c.requires.size_range)
+    omega (
+      arith,
+      c.len.ensures,
+      c.in_ok-places.places.ok,
+      ap length c.in_ok-places.ensures,
+      length-lattice c.args.n c.requires.size_range,
+    )
 
 pub overflow_add-room : goal.overflow_add-room
 overflow_add-room c =
@@ -23,8 +28,10 @@ overflow_add-room c =
 
 pub push_vertices-requires : goal.push_vertices-requires
 push_vertices-requires c =
-    record { place_range = rw (c.deref.ensures.value, c.in_ok-places.ensures)
-        (lattice-places c.args.n c.requires.size_range) }
+    record {
+      place_range = rw (c.deref.ensures.value, c.in_ok-places.ensures)
+          (lattice-places c.args.n c.requires.size_range);
+    }
 
 pub push_faces-requires-clause-ascending : goal.push_faces-requires-clause-ascending
 push_faces-requires-clause-ascending c =

@@ -13,26 +13,26 @@ loop-judged-preserved c =
     elim c.if-index.branch [
       | then-index w ↦
           let read =
-              mark_read c.loop-judged.closed.items p c.index.result.now true below c.index.ensures w.if-index.true in
+          mark_read c.loop-judged.closed.items p c.index.result.now true below c.index.ensures w.if-index.true in
           record {
             count = ap (λ v. length v.items) w.closed-is ∙ (w.mark_uppers.ensures.count ∙ count);
             judged =
                 subst (λ v. IsJudged c.args.self.now c.args.marks.items v.items (c.loop-judged.judged + 1))
                 (sym w.closed-is)
                 (judged_marked c.args.self.now c.args.marks.items c.loop-judged.closed.items _ c.loop-judged.judged p
-                    c.requires.range c.requires.checked
+                c.requires.range c.requires.checked
                 c.loop-judged.invariant.judged at read w.mark_uppers.ensures.marks);
           }
       | else-index w ↦
           let read =
-              mark_read c.loop-judged.closed.items p c.index.result.now false below c.index.ensures w.if-index.false in
+          mark_read c.loop-judged.closed.items p c.index.result.now false below c.index.ensures w.if-index.false in
           record {
             count = ap (λ v. length v.items) w.closed-is ∙ count;
             judged =
                 subst (λ v. IsJudged c.args.self.now c.args.marks.items v.items (c.loop-judged.judged + 1))
                 (sym w.closed-is)
                 (judged_unmarked c.args.self.now c.args.marks.items c.loop-judged.closed.items c.loop-judged.judged p
-                    c.loop-judged.invariant.judged at read);
+                c.loop-judged.invariant.judged at read);
           }
     ]
 
@@ -47,8 +47,8 @@ returns c =
           c.requires.checked
           (ap length c.deref-2.ensures.value ∙ count)
           (subst (λ xs. IsJudged c.args.self.now c.args.marks.items xs c.args.self.now.pages)
-              (sym c.deref-2.ensures.value)
+          (sym c.deref-2.ensures.value)
           (subst (λ n. IsJudged c.args.self.now c.args.marks.items c.loop-judged.closed.items n) end
-              c.loop-judged.invariant.judged))
+          c.loop-judged.invariant.judged))
           c.in_ok-pages.ensures.marked;
     }

@@ -19,25 +19,25 @@ cluster-requires c =
 pub is_drawn-requires-clause-home : goal.is_drawn-requires-clause-home
 is_drawn-requires-clause-home c =
     let count =
-        table_length (is_open c.args.self.now c.args.lens.now c.args.resident.now)
-        (length c.args.self.now.groups) c.deref.result.now (c.deref.ensures.value ∙ c.in_ok-open.ensures.marks) in
+    table_length (is_open c.args.self.now c.args.lens.now c.args.resident.now)
+    (length c.args.self.now.groups) c.deref.result.now (c.deref.ensures.value ∙ c.in_ok-open.ensures.marks) in
     let all = homes_length c.args.self.now c.in_ok-homes.homes.items c.in_ok-homes.ensures.homes in
     let below =
-        home_below c.args.self.now c.loop-c.c (checked_in_turn c.args.self.now c.requires.checked) (omega arith) in
+    home_below c.args.self.now c.loop-c.c (checked_in_turn c.args.self.now c.requires.checked) (omega arith) in
     let here =
-        home_read c.args.self.now c.in_ok-homes.homes.items c.loop-c.c c.index.result.now c.in_ok-homes.ensures.homes
-        (omega arith) c.index.ensures in
+    home_read c.args.self.now c.in_ok-homes.homes.items c.loop-c.c c.index.result.now c.in_ok-homes.ensures.homes
+    (omega arith) c.index.ensures in
     omega arith
 
 pub is_drawn-requires-clause-maker : goal.is_drawn-requires-clause-maker
 is_drawn-requires-clause-maker c = λ maker made.
     let count =
-        table_length (is_open c.args.self.now c.args.lens.now c.args.resident.now)
-        (length c.args.self.now.groups) c.deref.result.now (c.deref.ensures.value ∙ c.in_ok-open.ensures.marks) in
+    table_length (is_open c.args.self.now c.args.lens.now c.args.resident.now)
+    (length c.args.self.now.groups) c.deref.result.now (c.deref.ensures.value ∙ c.in_ok-open.ensures.marks) in
     let all = homes_length c.args.self.now c.in_ok-homes.homes.items c.in_ok-homes.ensures.homes in
     let below =
-        maker_below c.args.self.now c.loop-c.c maker c.requires.range (omega arith)
-        (ap (λ (k : ClusterHead). k.made) (sym c.cluster.ensures.cluster) ∙ made) in
+    maker_below c.args.self.now c.loop-c.c maker c.requires.range (omega arith)
+    (ap (λ (k : ClusterHead). k.made) (sym c.cluster.ensures.cluster) ∙ made) in
     omega arith
 
 pub overflow_cast-c : goal.overflow_cast-c
@@ -51,26 +51,26 @@ pub loop-c-preserved : goal.loop-c-preserved
 loop-c-preserved c =
     let all = homes_length c.args.self.now c.in_ok-homes.homes.items c.in_ok-homes.ensures.homes in
     let here =
-        home_read c.args.self.now c.in_ok-homes.homes.items c.loop-c.c c.index.result.now c.in_ok-homes.ensures.homes
-        (omega arith) c.index.ensures in
+    home_read c.args.self.now c.in_ok-homes.homes.items c.loop-c.c c.index.result.now c.in_ok-homes.ensures.homes
+    (omega arith) c.index.ensures in
     let test = is_in_cut c.args.self.now c.args.lens.now c.args.resident.now in
     elim c.if-is_drawn.branch [
       | then-is_drawn+in_ok-push w ↦
           let told =
-              drawn_by c.args.self.now c.args.lens.now c.args.resident.now c.deref.result.now c.loop-c.c
-              c.index.result.now c.cluster.result true
+          drawn_by c.args.self.now c.args.lens.now c.args.resident.now c.deref.result.now c.loop-c.c
+          c.index.result.now c.cluster.result true
           c.requires.range (checked_in_turn c.args.self.now c.requires.checked)
-              (c.deref.ensures.value ∙ c.in_ok-open.ensures.marks) here c.cluster.ensures.cluster
-              (omega arith) w.if-is_drawn.ensures.drawn in
+          (c.deref.ensures.value ∙ c.in_ok-open.ensures.marks) here c.cluster.ensures.cluster
+          (omega arith) w.if-is_drawn.ensures.drawn in
           ap (λ v. v.items) w.cut-is ∙ (w.in_ok-push.ensures.items ∙
-              filter_step test c.loop-c.c c.loop-c.cut.items c.loop-c.invariant (sym told))
+          filter_step test c.loop-c.c c.loop-c.cut.items c.loop-c.invariant (sym told))
       | else-is_drawn w ↦
           let told =
-              drawn_by c.args.self.now c.args.lens.now c.args.resident.now c.deref.result.now c.loop-c.c
-              c.index.result.now c.cluster.result false
+          drawn_by c.args.self.now c.args.lens.now c.args.resident.now c.deref.result.now c.loop-c.c
+          c.index.result.now c.cluster.result false
           c.requires.range (checked_in_turn c.args.self.now c.requires.checked)
-              (c.deref.ensures.value ∙ c.in_ok-open.ensures.marks) here c.cluster.ensures.cluster
-              (omega arith) w.if-is_drawn.ensures.drawn in
+          (c.deref.ensures.value ∙ c.in_ok-open.ensures.marks) here c.cluster.ensures.cluster
+          (omega arith) w.if-is_drawn.ensures.drawn in
           ap (λ v. v.items) w.cut-is ∙ filter_skip test c.loop-c.c c.loop-c.cut.items c.loop-c.invariant (sym told)
     ]
 

@@ -13,10 +13,10 @@ found c =
     let sizes = sizes_of c.args.self.now c.requires.range in
     let parted = firsts_parted c.args.self.now c.as_slice.result.now c.args.c c.as_slice.ensures turn in
     let point =
-        IsPartitionPoint-from_clause (λ (group : Group). leb group.first c.args.c) _ _
-        c.partition_point-after.ensures.partitioned parted (λ a r q k. search rules) in
+    IsPartitionPoint-from_clause (λ (group : Group). leb group.first c.args.c) _ _
+    c.partition_point-after.ensures.partitioned parted (λ a r q k. search rules) in
     home_found c.args.self.now c.as_slice.result.now c.partition_point-after.result c.args.c c.as_slice.ensures turn
-        sizes.some_group c.requires.cluster
+    sizes.some_group c.requires.cluster
     c.partition_point-after.ensures.bound point
 
 pub overflow_cast-result : goal.overflow_cast-result

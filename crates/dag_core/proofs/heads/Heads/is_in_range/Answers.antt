@@ -36,6 +36,6 @@ returns c =
           all_in_range c.args.self.now c.counts-counts.result c.as_slice-groups.result.now
           c.as_slice-clusters.result.now c.are_clusters_in_range.result
           c.counts-counts.ensures.counts c.as_slice-groups.ensures c.as_slice-clusters.ensures
-              (sym counted ∙ c.are_counts_in_range.ensures.counts)
+          (sym counted ∙ c.are_counts_in_range.ensures.counts)
           (sym grouped ∙ c.are_groups_in_range.ensures.groups) c.are_clusters_in_range.ensures.clusters;
     }

@@ -22,20 +22,20 @@ loop-c-init c =
 pub mark-requires : goal.mark-requires
 mark-requires c =
     let slice : length c.as_slice-c-end.result.now ≡ length c.args.self.now.clusters =
-        ap length c.as_slice-c-end.ensures in
+    ap length c.as_slice-c-end.ensures in
     let count = c.loop-c.invariant.count in
     record {
       place = λ maker made.
           let below =
-              maker_below c.args.self.now c.loop-c.c maker c.requires.range (omega arith)
-              (ap (λ (k : ClusterHead). k.made) (sym c.cluster.ensures.cluster) ∙ made) in
+          maker_below c.args.self.now c.loop-c.c maker c.requires.range (omega arith)
+          (ap (λ (k : ClusterHead). k.made) (sym c.cluster.ensures.cluster) ∙ made) in
           omega arith;
     }
 
 pub loop-c-preserved : goal.loop-c-preserved
 loop-c-preserved c =
     let slice : length c.as_slice-c-end.result.now ≡ length c.args.self.now.clusters =
-        ap length c.as_slice-c-end.ensures in
+    ap length c.as_slice-c-end.ensures in
     let below : c.loop-c.c < length c.args.self.now.clusters = omega arith in
     record {
       count = c.mark.ensures.count ∙ c.loop-c.invariant.count;
@@ -43,14 +43,14 @@ loop-c-preserved c =
           c.mark.ensures.marks g
           ∙ (ap (λ b. b || is_maker g c.cluster.result.made) (c.loop-c.invariant.marks g)
           ∙ (ap (λ (k : ClusterHead). list_any (is_made_by g)
-              (take c.loop-c.c c.args.self.now.clusters) || is_made_by g k) c.cluster.ensures.cluster
+          (take c.loop-c.c c.args.self.now.clusters) || is_made_by g k) c.cluster.ensures.cluster
           ∙ sym (list_any_more (is_made_by g) c.args.self.now.clusters c.loop-c.c no_cluster below)));
     }
 
 pub returns : goal.returns
 returns c =
     let slice : length c.as_slice-c-end.result.now ≡ length c.args.self.now.clusters =
-        ap length c.as_slice-c-end.ensures in
+    ap length c.as_slice-c-end.ensures in
     record {
       makers =
           all_marked (has_made c.args.self.now) (length c.args.self.now.groups) c.loop-c.makers.items

@@ -10,7 +10,7 @@ use Rattle.dag_core.proofs.heads.Heads.need.Goals as goal
 pub returns : goal.returns
 returns c =
     let slice : length c.as_slice-g-end.result.now ≡ length c.args.self.now.groups =
-        ap length c.as_slice-g-end.ensures in
+    ap length c.as_slice-g-end.ensures in
     let end : take c.loop-g.g c.args.self.now.groups ≡ c.args.self.now.groups = take_all _ _ (omega arith) in
     record {
       need =
@@ -18,7 +18,7 @@ returns c =
           c.in_ok-need.need
           (λ p. c.loop-g.invariant.marks p
           ∙ (ap (λ (gs : List Group). nat_lt p c.args.self.now.roots || list_any
-              (λ (group : Group). is_coarse_group c.args.lens.now group && group.page == p) gs) end
+          (λ (group : Group). is_coarse_group c.args.lens.now group && group.page == p) gs) end
           ∙ ap (λ b. nat_lt p c.args.self.now.roots || b) (sym (coarse_has c.args.self.now c.args.lens.now p))))
           c.in_ok-need.ensures.closure;
     }

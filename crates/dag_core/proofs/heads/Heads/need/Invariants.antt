@@ -9,5 +9,5 @@ invariant-loop-g l = record {
   count : length l.marks.items ≡ l.self.pages;
   marks : (p : ℕ) → get_or l.marks.items p false
       ≡ (nat_lt p l.self.roots || list_any (λ (group : Group). is_coarse_group l.lens group && group.page == p)
-          (take l.g l.self.groups));
+      (take l.g l.self.groups));
 }

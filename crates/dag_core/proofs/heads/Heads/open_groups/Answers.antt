@@ -9,6 +9,6 @@ loop-g-preserved c =
     c.in_ok-push.ensures.items
     ∙ (ap (λ xs. xs ++ c.is_open.result ∷ []) c.loop-g.invariant
     ∙ (ap (λ b. map (is_open c.args.self.now c.args.lens.now c.args.resident.now)
-        (range_with_len 0 c.loop-g.g) ++ b ∷ []) c.is_open.ensures.group
+    (range_with_len 0 c.loop-g.g) ++ b ∷ []) c.is_open.ensures.group
     ∙ sym (map-range_with_len_more (is_open c.args.self.now c.args.lens.now c.args.resident.now) 0 c.loop-g.g c.loop-g.g
-        (zero-add c.loop-g.g))))
+    (zero-add c.loop-g.g))))

@@ -14,14 +14,14 @@ pub bounds-terminal-p : goal.bounds-terminal-p
 bounds-terminal-p c =
     let tris = table_length (tris_on c.args.self.now) c.args.self.now.pages c.args.tris.now c.requires.tris in
     let terminal =
-        table_length (has_terminal_on c.args.self.now) c.args.self.now.pages c.args.terminal.now c.requires.terminal in
+    table_length (has_terminal_on c.args.self.now) c.args.self.now.pages c.args.terminal.now c.requires.terminal in
     omega arith
 
 pub bounds-later-p : goal.bounds-later-p
 bounds-later-p c =
     let tris = table_length (tris_on c.args.self.now) c.args.self.now.pages c.args.tris.now c.requires.tris in
     let later =
-        table_length (has_later_upper c.args.self.now) c.args.self.now.pages c.args.later.now c.requires.later in
+    table_length (has_later_upper c.args.self.now) c.args.self.now.pages c.args.later.now c.requires.later in
     omega arith
 
 pub overflow_cast-result : goal.overflow_cast-result
@@ -35,7 +35,7 @@ loop-p-preserved c =
     let tris = table_length (tris_on c.args.self.now) c.args.self.now.pages c.args.tris.now c.requires.tris in
     below_more _ _ c.loop-p.invariant
     (page_by c.args.self.now c.args.tris.now c.args.terminal.now c.args.later.now c.loop-p.p false c.requires.range
-        (in_turn c.args.self.now c.requires.members)
+    (in_turn c.args.self.now c.requires.members)
     c.requires.tris c.requires.terminal c.requires.later (omega arith) c.if-is_bad_page.ensures.bad)
 
 pub returns-then-is_bad_page : goal.returns-then-is_bad_page
@@ -53,5 +53,7 @@ returns-then-is_bad_page c =
 pub returns : goal.returns
 returns c =
     let tris = table_length (tris_on c.args.self.now) c.args.self.now.pages c.args.tris.now c.requires.tris in
-    record { place = none_at_all (breaks_page c.args.self.now) c.loop-p.p c.loop-p.invariant
-        (λ place from. page_beyond c.args.self.now place (omega arith)) }
+    record {
+      place = none_at_all (breaks_page c.args.self.now) c.loop-p.p c.loop-p.invariant
+          (λ place from. page_beyond c.args.self.now place (omega arith));
+    }

@@ -1,6 +1,5 @@
-use Rattle.std.proofs.Common.{
-  ◌≡◌, ◌==◌, ◌+◌, ◌≤◌, ℕ, Bool, true, false, cond, List, length, get_or, ap, sym, ◌∙◌, arith, replicate,
-}
+use Rattle.std.proofs.Common.{◌≡◌, ◌==◌, ◌+◌, ◌≤◌, ℕ, Bool, true, false, cond, List, length, get_or, ap, sym, ◌∙◌}
+use Rattle.std.proofs.Common.{arith, replicate}
 use Rattle.std.proofs.lemmas.List.{length-replicate}
 use Rattle.std.proofs.lemmas.List.FromFn.{fill_by_all}
 use Rattle.geom_core.specs.declared.limits.TheConstants.{TRIANGLES_PER_CLUSTER}
@@ -32,7 +31,7 @@ cluster-requires c =
 pub loop-c-init : goal.loop-c-init
 loop-c-init c =
     let all : c.in_ok-tris.tris.items ≡ replicate c.args.self.now.pages 0 =
-        c.in_ok-tris.ensures.items_if_clones_equal (λ y same. same) in
+    c.in_ok-tris.ensures.items_if_clones_equal (λ y same. same) in
     let zero_at = λ (p : ℕ). ap (λ (xs : List ℕ). get_or xs p 0) all ∙ unsummed c.args.self.now.pages p in
     record {
       count = ap (λ (xs : List ℕ). length xs) all ∙ length-replicate _ _;
@@ -45,13 +44,13 @@ add_at-requires c =
     let all = homes_length c.args.self.now c.args.homes.now c.requires.homes in
     let sizes = sizes_of c.args.self.now c.requires.range in
     let group =
-        home_in c.args.self.now c.args.homes.now c.loop-c.c
-        (in_turn c.args.self.now c.requires.members) c.requires.homes c.loop-c-test.true in
+    home_in c.args.self.now c.args.homes.now c.loop-c.c
+    (in_turn c.args.self.now c.requires.members) c.requires.homes c.loop-c-test.true in
     let bounds = group_bounds c.args.self.now (get_or c.args.homes.now c.loop-c.c 0) c.requires.range group in
     let page : c.group-page.result.page ≡ (group_at c.args.self.now (get_or c.args.homes.now c.loop-c.c 0)).page =
-        ap (λ (k : Group). k.page) c.group-page.ensures.group in
+    ap (λ (k : Group). k.page) c.group-page.ensures.group in
     let tris : c.cluster.result.tris ≡ (cluster_at c.args.self.now c.loop-c.c).tris =
-        ap (λ (k : ClusterHead). k.tris) c.cluster.ensures.cluster in
+    ap (λ (k : ClusterHead). k.tris) c.cluster.ensures.cluster in
     let few = tris_limit c.args.self.now c.loop-c.c c.requires.range (omega arith) in
     let count = c.loop-c.invariant.count in
     let limit = c.loop-c.invariant.limit c.group-page.result.page in
@@ -64,7 +63,7 @@ loop-c-preserved c =
     let page : c.group-page.result.page ≡ page_of_cluster c.args.self.now c.loop-c.c =
     ap (λ (k : Group). k.page) c.group-page.ensures.group ∙ ap (λ h. (group_at c.args.self.now h).page) here in
     let tris : c.cluster.result.tris ≡ (cluster_at c.args.self.now c.loop-c.c).tris =
-        ap (λ (k : ClusterHead). k.tris) c.cluster.ensures.cluster in
+    ap (λ (k : ClusterHead). k.tris) c.cluster.ensures.cluster in
     let few = tris_limit c.args.self.now c.loop-c.c c.requires.range (omega arith) in
     record {
       count = c.add_at.ensures.count ∙ c.loop-c.invariant.count;
@@ -73,14 +72,14 @@ loop-c-preserved c =
           ∙ (ap (λ n. n + cond (c.group-page.result.page == p) c.cluster.result.tris 0) (c.loop-c.invariant.sums p)
           ∙ (ap (λ q. tris_before c.args.self.now p c.loop-c.c + cond (q == p) c.cluster.result.tris 0) page
           ∙ (ap (λ n. tris_before c.args.self.now p c.loop-c.c + cond
-              (page_of_cluster c.args.self.now c.loop-c.c == p) n 0) tris
+          (page_of_cluster c.args.self.now c.loop-c.c == p) n 0) tris
           ∙ sym (sum_of_filter-more (λ k. (cluster_at c.args.self.now k).tris)
-              (λ k. page_of_cluster c.args.self.now k == p) c.loop-c.c))));
+          (λ k. page_of_cluster c.args.self.now k == p) c.loop-c.c))));
       limit = λ p.
           let sum = c.add_at.ensures.sums p in
           let old = c.loop-c.invariant.limit p in
           let more : cond (c.group-page.result.page == p) c.cluster.result.tris 0 ≤ TRIANGLES_PER_CLUSTER =
-              at_most (c.group-page.result.page == p) c.cluster.result.tris TRIANGLES_PER_CLUSTER (omega arith) in
+          at_most (c.group-page.result.page == p) c.cluster.result.tris TRIANGLES_PER_CLUSTER (omega arith) in
           omega arith;
     }
 

@@ -16,7 +16,7 @@ one_more heads g member group homes turn below same within before =
     let first = (group_at heads g).first in
     let count : group.count ≡ (group_at heads g).count = ap (λ (k : Group). k.count) same in
     let here : home heads (first + member) ≡ g =
-        home_is heads g (first + member) turn below (omega arith) (omega arith) in
+    home_is heads g (first + member) turn below (omega arith) (omega arith) in
     let e : first + (member + 1) ≡ (first + member) + 1 = omega arith in
     ap (λ xs. xs ++ g ∷ []) before
     ∙ (ap (λ k. map (home heads) (range_with_len 0 (first + member)) ++ k ∷ []) (sym here)
@@ -30,19 +30,19 @@ pub loop-member-init : goal.loop-member-init
 loop-member-init c =
     c.requires.before
     ∙ ap (λ n. map (home c.args.self.now) (range_with_len 0 n))
-        (sym (add-zero (group_at c.args.self.now c.args.g).first))
+    (sym (add-zero (group_at c.args.self.now c.args.g).first))
 
 pub loop-member-preserved : goal.loop-member-preserved
 loop-member-preserved c =
     c.in_ok-push.ensures.items
     ∙ one_more c.args.self.now c.args.g c.loop-member._member c.group-member-end.result c.loop-member.homes.items
     (in_turn c.args.self.now c.requires.members) c.requires.group c.group-member-end.ensures.group
-        c.loop-member-test.true c.loop-member.invariant
+    c.loop-member-test.true c.loop-member.invariant
 
 pub returns : goal.returns
 returns c =
     let count : c.group-member-end.result.count ≡ (group_at c.args.self.now c.args.g).count =
-        ap (λ (k : Group). k.count) c.group-member-end.ensures.group in
+    ap (λ (k : Group). k.count) c.group-member-end.ensures.group in
     let e : (group_at c.args.self.now c.args.g).first + c.loop-member._member ≡
-        (group_at c.args.self.now c.args.g).first + (group_at c.args.self.now c.args.g).count = omega arith in
+    (group_at c.args.self.now c.args.g).first + (group_at c.args.self.now c.args.g).count = omega arith in
     record { homes = c.loop-member.invariant ∙ ap (λ n. map (home c.args.self.now) (range_with_len 0 n)) e }

@@ -21,16 +21,23 @@ loop-g-preserved c =
     let all = makers_length c.args.self.now c.args.makers.now c.requires.makers in
     below_more _ _ c.loop-g.invariant
     (terminal_kept c.args.self.now c.args.makers.now c.loop-g.g c.group.result c.requires.makers c.group.ensures.group
-        (omega arith) c.if-group-makers.false)
+    (omega arith) c.if-group-makers.false)
 
 pub returns-then-group-makers : goal.returns-then-group-makers
 returns-then-group-makers c =
     let all = makers_length c.args.self.now c.args.makers.now c.requires.makers in
-    record { place = (terminal_broken c.args.self.now c.args.makers.now c.loop-g.g c.group.result c.requires.makers
-        c.group.ensures.group (omega arith) c.if-group-makers.true, c.loop-g.invariant) }
+    record {
+      place = (
+        terminal_broken c.args.self.now c.args.makers.now c.loop-g.g c.group.result c.requires.makers
+            c.group.ensures.group (omega arith) c.if-group-makers.true,
+        c.loop-g.invariant,
+      );
+    }
 
 pub returns : goal.returns
 returns c =
     let all = makers_length c.args.self.now c.args.makers.now c.requires.makers in
-    record { place = none_at_all (breaks_terminal c.args.self.now) c.loop-g.g c.loop-g.invariant
-        (λ place from. terminal_beyond c.args.self.now place (omega arith)) }
+    record {
+      place = none_at_all (breaks_terminal c.args.self.now) c.loop-g.g c.loop-g.invariant
+          (λ place from. terminal_beyond c.args.self.now place (omega arith));
+    }

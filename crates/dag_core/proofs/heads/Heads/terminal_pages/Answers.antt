@@ -19,17 +19,17 @@ loop-g-init c = record {
 pub mark-requires : goal.mark-requires
 mark-requires c =
     let slice : length c.as_slice-g-end.result.now ≡ length c.args.self.now.groups =
-        ap length c.as_slice-g-end.ensures in
+    ap length c.as_slice-g-end.ensures in
     let count = c.loop-g.invariant.count in
     let bounds = group_bounds c.args.self.now c.loop-g.g c.requires.range (omega arith) in
     let page : c.group.result.page ≡ (group_at c.args.self.now c.loop-g.g).page =
-        ap (λ (k : Group). k.page) c.group.ensures.group in
+    ap (λ (k : Group). k.page) c.group.ensures.group in
     record { place = λ p is. let same = c.terminal_page.ensures.same p is in omega arith }
 
 pub loop-g-preserved : goal.loop-g-preserved
 loop-g-preserved c =
     let slice : length c.as_slice-g-end.result.now ≡ length c.args.self.now.groups =
-        ap length c.as_slice-g-end.ensures in
+    ap length c.as_slice-g-end.ensures in
     let below : c.loop-g.g < length c.args.self.now.groups = omega arith in
     record {
       count = c.mark.ensures.count ∙ c.loop-g.invariant.count;
@@ -38,21 +38,21 @@ loop-g-preserved c =
           ∙ (ap (λ b. get_or c.loop-g.pages.items p false || b) (c.terminal_page.ensures.page p)
           ∙ (ap (λ b. b || (c.group.result.terminal && c.group.result.page == p)) (c.loop-g.invariant.marks p)
           ∙ (ap (λ (k : Group). list_any (λ (group : Group). group.terminal && group.page == p)
-              (take c.loop-g.g c.args.self.now.groups) || (k.terminal && k.page == p)) c.group.ensures.group
+          (take c.loop-g.g c.args.self.now.groups) || (k.terminal && k.page == p)) c.group.ensures.group
           ∙ sym (list_any_more (λ (group : Group). group.terminal && group.page == p) c.args.self.now.groups c.loop-g.g
-              no_group below))));
+          no_group below))));
     }
 
 pub returns : goal.returns
 returns c =
     let slice : length c.as_slice-g-end.result.now ≡ length c.args.self.now.groups =
-        ap length c.as_slice-g-end.ensures in
+    ap length c.as_slice-g-end.ensures in
     record {
       pages =
           all_marked (has_terminal_on c.args.self.now) c.args.self.now.pages c.loop-g.pages.items
           c.loop-g.invariant.count
           (λ p. c.loop-g.invariant.marks p
           ∙ (ap (λ xs. list_any (λ (group : Group). group.terminal && group.page == p) xs)
-              (take_all c.loop-g.g c.args.self.now.groups (omega arith))
+          (take_all c.loop-g.g c.args.self.now.groups (omega arith))
           ∙ sym (has_terminal_on-is c.args.self.now p)));
     }

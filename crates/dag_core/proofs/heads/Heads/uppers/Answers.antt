@@ -23,17 +23,17 @@ pub upper_by-requires-clause-home : goal.upper_by-requires-clause-home
 upper_by-requires-clause-home c =
     let all = homes_length c.args.self.now c.in_ok-homes.homes.items c.in_ok-homes.ensures.homes in
     let below =
-        home_below c.args.self.now c.loop-c.c (checked_in_turn c.args.self.now c.requires.checked) (omega arith) in
+    home_below c.args.self.now c.loop-c.c (checked_in_turn c.args.self.now c.requires.checked) (omega arith) in
     let here =
-        home_read c.args.self.now c.in_ok-homes.homes.items c.loop-c.c c.index.result.now c.in_ok-homes.ensures.homes
-        (omega arith) c.index.ensures in
+    home_read c.args.self.now c.in_ok-homes.homes.items c.loop-c.c c.index.result.now c.in_ok-homes.ensures.homes
+    (omega arith) c.index.ensures in
     omega arith
 
 pub upper_by-requires-clause-maker : goal.upper_by-requires-clause-maker
 upper_by-requires-clause-maker c = λ maker made.
     let all = homes_length c.args.self.now c.in_ok-homes.homes.items c.in_ok-homes.ensures.homes in
     maker_below c.args.self.now c.loop-c.c maker c.requires.range (omega arith)
-        (ap (λ (k : ClusterHead). k.made) (sym c.cluster.ensures.cluster) ∙ made)
+    (ap (λ (k : ClusterHead). k.made) (sym c.cluster.ensures.cluster) ∙ made)
 
 pub loop-c-init : goal.loop-c-init
 loop-c-init c = record {
@@ -51,22 +51,22 @@ loop-c-preserved c =
     let heads = c.args.self.now in
     let all = homes_length c.args.self.now c.in_ok-homes.homes.items c.in_ok-homes.ensures.homes in
     let here =
-        home_read c.args.self.now c.in_ok-homes.homes.items c.loop-c.c c.index.result.now c.in_ok-homes.ensures.homes
-        (omega arith) c.index.ensures in
+    home_read c.args.self.now c.in_ok-homes.homes.items c.loop-c.c c.index.result.now c.in_ok-homes.ensures.homes
+    (omega arith) c.index.ensures in
     record {
       count = c.mark.ensures.count ∙ c.loop-c.invariant.count;
       marks = λ q.
           c.mark.ensures.marks q
           ∙ (ap (λ b. get_or c.loop-c.marks.items q false || b) (c.upper_by.ensures.page q)
           ∙ (ap (λ b. b || (not (q == c.args.p) &&
-              (is_maker_on heads c.args.p c.cluster.result.made && (group_at heads c.index.result.now).page == q)))
-              (c.loop-c.invariant.marks q)
+          (is_maker_on heads c.args.p c.cluster.result.made && (group_at heads c.index.result.now).page == q)))
+          (c.loop-c.invariant.marks q)
           ∙ (ap (λ (k : ClusterHead). list_any (is_upper_by heads c.args.p q) (range_with_len 0 c.loop-c.c) ||
-              (not (q == c.args.p) && (is_maker_on heads c.args.p k.made &&
-              (group_at heads c.index.result.now).page == q))) c.cluster.ensures.cluster
+          (not (q == c.args.p) && (is_maker_on heads c.args.p k.made &&
+          (group_at heads c.index.result.now).page == q))) c.cluster.ensures.cluster
           ∙ (ap (λ h. list_any (is_upper_by heads c.args.p q) (range_with_len 0 c.loop-c.c) ||
-              (not (q == c.args.p) && (is_maker_on heads c.args.p (cluster_at heads c.loop-c.c).made &&
-              (group_at heads h).page == q))) here
+          (not (q == c.args.p) && (is_maker_on heads c.args.p (cluster_at heads c.loop-c.c).made &&
+          (group_at heads h).page == q))) here
           ∙ sym (list_any-more (is_upper_by heads c.args.p q) c.loop-c.c)))));
     }
 
@@ -80,7 +80,7 @@ returns c =
     let all = homes_length c.args.self.now c.in_ok-homes.homes.items c.in_ok-homes.ensures.homes in
     let end : c.loop-c.c ≡ length c.args.self.now.clusters = omega arith in
     let count : length c.deref.result.now ≡ c.args.self.now.pages =
-        ap length c.deref.ensures.value ∙ c.loop-c.invariant.count in
+    ap length c.deref.ensures.value ∙ c.loop-c.invariant.count in
     let marks : (q : ℕ) → get_or c.deref.result.now q false ≡ is_upper c.args.self.now c.args.p q =
     λ q. ap (λ xs. get_or xs q false) c.deref.ensures.value
     ∙ (c.loop-c.invariant.marks q

@@ -8,7 +8,7 @@ split c =
     c.loop-term.term-index c.in_ok-sort_and_add_up.ensures
     (rw c.deref-term-items.ensures.value at c.loop-term-test.false)
     (rw c.deref-term-items.ensures.value at c.loop-term.invariant.0)
-        (rw c.deref-term-items.ensures.value at c.loop-term.invariant.1)
+    (rw c.deref-term-items.ensures.value at c.loop-term.invariant.1)
 
 pub invariant_of-result : goal.invariant_of-result
 invariant_of-result c = ((split c).rim, (split c).small)

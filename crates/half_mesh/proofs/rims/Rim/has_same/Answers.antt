@@ -8,20 +8,20 @@ pub returns-then-eq-clause-same : goal.returns-then-eq-clause-same
 returns-then-eq-clause-same c =
     rw (sym c.self.view_is, sym c.other.view_is)
     (same_edges_first c.self.inside.edges.items c.other.inside.edges.items c.self.inside.sums.items
-        c.other.inside.sums.items
+    c.other.inside.sums.items
     c.eq.result c.eq-then-eq.result
     (rw (c.as_slice.ensures.value, c.as_slice-2.ensures.value) at
     (slice_eq-Decides edge_decides c.as_slice.result.now c.as_slice-2.result.now c.eq.result c.eq.ensures))
     (rw (c.as_slice-then-eq.ensures.value, c.as_slice-then-eq-2.ensures.value) at
     (slice_eq-Decides Decides-int_eq c.as_slice-then-eq.result.now c.as_slice-then-eq-2.result.now c.eq-then-eq.result
-        c.eq-then-eq.ensures))
+    c.eq-then-eq.ensures))
     c.if-eq.true)
 
 pub returns-else-eq-clause-same : goal.returns-else-eq-clause-same
 returns-else-eq-clause-same c =
     rw (sym c.self.view_is, sym c.other.view_is)
     (other_edges c.self.inside.edges.items c.other.inside.edges.items c.self.inside.sums.items c.other.inside.sums.items
-        c.eq.result
+    c.eq.result
     (rw (c.as_slice.ensures.value, c.as_slice-2.ensures.value) at
     (slice_eq-Decides edge_decides c.as_slice.result.now c.as_slice-2.result.now c.eq.result c.eq.ensures))
     c.if-eq.false)

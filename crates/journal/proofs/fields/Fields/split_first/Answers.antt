@@ -6,4 +6,4 @@ use Rattle.journal.specs.RestOfLine.{fields_left}
 pub returns : goal.returns
 returns c =
     sym c.self.view_is ∙ ap fields_left c.in_ok-self.was ∙
-        fields_of_cut _ _ _ c.cut_at.ensures.apart c.cut_at.ensures.whole
+    fields_of_cut _ _ _ c.cut_at.ensures.apart c.cut_at.ensures.whole

@@ -8,7 +8,7 @@ use Rattle.obj_source.proofs.decimals.Digits.with.Goals.{then-self-gt0, else-sel
 pub returns-then-self-ge-MOST_DIGITS-clause-counted : goal.returns-then-self-ge-MOST_DIGITS-clause-counted
 returns-then-self-ge-MOST_DIGITS-clause-counted c =
     λ before h. AreCounted_full c.args.self.value c.args.self.significant
-        (48 + c.args.digit) before c.if-self-ge-MOST_DIGITS.true h
+    (48 + c.args.digit) before c.if-self-ge-MOST_DIGITS.true h
 
 pub overflow_mul-result : goal.overflow_mul-result
 overflow_mul-result c =
@@ -31,4 +31,4 @@ returns-clause-counted c =
     in
     λ before h. rw (c.from.ensures, c.from-2.ensures) (
     AreCounted_next s.value s.significant c.args.digit c.if-self-gt0.is_significant before
-        c.if-self-ge-MOST_DIGITS.false c.requires.digit test h)
+    c.if-self-ge-MOST_DIGITS.false c.requires.digit test h)

@@ -9,4 +9,4 @@ pub returns-in-Vertex : goal.returns-in-Vertex
 returns-in-Vertex c mesh_so_far line words more settled stands =
     stands_settled c.args.self.now mesh_so_far line words more
     (settled_vertex c.args.self.now c.in-Vertex.vertex c.in-Vertex.is
-        (λ scale rest. c.ignores_rest.ensures scale rest settled)) stands
+    (λ scale rest. c.ignores_rest.ensures scale rest settled)) stands

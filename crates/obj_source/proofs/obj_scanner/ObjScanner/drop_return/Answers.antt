@@ -10,7 +10,7 @@ returns-then-eq-clause-word c =
     c.pop.ensures.rest
     ∙ ap (λ n. take (n - 1) c.args.self.now.word.items) len
     ∙ sym (without_return-dropped c.last.result _ c.args.self.now.word.items refl found
-        (sym c.eq.ensures ∙ c.if-eq.true))
+    (sym c.eq.ensures ∙ c.if-eq.true))
 
 pub returns-else-eq-clause-word : goal.returns-else-eq-clause-word
 returns-else-eq-clause-word c =

@@ -10,7 +10,7 @@ pub returns-in_err-end_line-clause-refused : goal.returns-in_err-end_line-clause
 returns-in_err-end_line-clause-refused c =
     let p = err_from_is_err_and c.from_residual.result c.from_residual.ensures.1 in
     rw (p.1, p.2) (λ scale text t short. refused_at_end c.args.self scale text _ t short
-        (c.in_err-end_line.ensures.judged scale t.mesh_so_far t.line t.begun t.words))
+    (c.in_err-end_line.ensures.judged scale t.mesh_so_far t.line t.begun t.words))
 
 none_there : (n : ℕ) (b : Bool) → b ≡ eqb n 0 → b ≡ true → n ≡ 0
 none_there n b says is_so = grind (arith, nat_tests)
@@ -24,7 +24,7 @@ returns-then-is_empty-clause-refused c = λ scale text t short.
     let same = ap (λ (v : Vec Tri Global). length v.items) c.into_triangles-triangles.ensures in
     let none = none_there _ _ c.is_empty.ensures c.if-is_empty.true in
     mesh_at_end c.args.self c.end_line.new.self.builder scale text t short
-        (c.in_ok-end_line.ensures.judged scale t.mesh_so_far t.line t.begun t.words)
+    (c.in_ok-end_line.ensures.judged scale t.mesh_so_far t.line t.begun t.words)
     ∙ empty_at_end (so_far c.end_line.new.self.builder) (omega (arith, same, none, tris.ok.0))
 
 pub returns-clause-listed : goal.returns-clause-listed
@@ -33,6 +33,6 @@ returns-clause-listed c = λ scale text t short.
     let same = ap (λ (v : Vec Tri Global). length v.items) c.into_triangles-triangles.ensures in
     let some = some_there _ _ c.is_empty.ensures c.if-is_empty.false in
     mesh_at_end c.args.self c.end_line.new.self.builder scale text t short
-        (c.in_ok-end_line.ensures.judged scale t.mesh_so_far t.line t.begun t.words)
+    (c.in_ok-end_line.ensures.judged scale t.mesh_so_far t.line t.begun t.words)
     ∙ some_at_end (so_far c.end_line.new.self.builder) (omega (arith, same, some, tris.ok.0))
     ∙ ap (λ (v : Vec Tri Global). Ok v.items) (sym c.into_triangles-triangles.ensures)

@@ -1,6 +1,5 @@
-use Rattle.std.proofs.Common.{
-  ◌≡◌, List, [], ◌∷◌, ◌++◌, ℕ, ◌≤◌, length, Bool, true, false, eqb, arith, ap, sym, subst, ◌∙◌,
-}
+use Rattle.std.proofs.Common.{◌≡◌, List, [], ◌∷◌, ◌++◌, ℕ, ◌≤◌, length, Bool, true, false, eqb, arith, ap, sym, subst}
+use Rattle.std.proofs.Common.{◌∙◌}
 use Rattle.std.proofs.lemmas.Bool.Decides.{nat_tests}
 use Rattle.obj_source.specs.Builder.{Stands}
 use Rattle.obj_source.specs.Scanner.{StandsOn}
@@ -17,13 +16,15 @@ returns-clause-mesh_so_far c = λ scale mesh_so_far line words stands.
     let len = sym c.deref.ensures.len ∙ ap (λ (l : List ℕ). length l) c.deref.ensures.value in
     let some = not_empty _ _ _ c.is_empty.ensures c.if-is_empty.false len in
     let took : StandsOn c.args.self.now.builder scale mesh_so_far line words →
-        StandsOn c.push_word.new.self scale mesh_so_far line (words ++ word ∷ []) = λ s.
-    (c.push_word.ensures.same.0 ∙ s.0, subst
-        (λ (w : List ℕ). Stands c.push_word.new.self mesh_so_far line (words ++ w ∷ [])) c.deref.ensures.value
-        (c.in_ok-push_word.ensures.stands mesh_so_far line words s.1)) in
+    StandsOn c.push_word.new.self scale mesh_so_far line (words ++ word ∷ []) = λ s. (
+      c.push_word.ensures.same.0 ∙ s.0,
+      subst
+          (λ (w : List ℕ). Stands c.push_word.new.self mesh_so_far line (words ++ w ∷ [])) c.deref.ensures.value
+          (c.in_ok-push_word.ensures.stands mesh_so_far line words s.1),
+    ) in
     let settled : c.ignores_rest.result ≡ true → (more : List (List ℕ)) →
-        StandsOn c.push_word.new.self scale mesh_so_far line (words ++ word ∷ []) →
-        StandsOn c.push_word.new.self scale mesh_so_far line ((words ++ word ∷ []) ++ more) = λ is_so more s.
+    StandsOn c.push_word.new.self scale mesh_so_far line (words ++ word ∷ []) →
+    StandsOn c.push_word.new.self scale mesh_so_far line ((words ++ word ∷ []) ++ more) = λ is_so more s.
     (s.0, c.ignores_rest.ensures mesh_so_far line (words ++ word ∷ []) more is_so s.1) in
     elim c.if-ignores_rest.branch [
       | then-ignores_rest w ↦ StandsAt-settled _ _ _ _ scale mesh_so_far line words word some w.self-is took

@@ -18,9 +18,9 @@ pub returns-then-not-placed-item-clause-least : goal.returns-then-not-placed-ite
 returns-then-not-placed-item-clause-least c =
     let item = c.in-Some.item in
     let among =
-        c.loop-item.invariant.from item (popped item c.loop-item.self.queue c.pop.new.self c.in-Some.ensures.taken) in
+    c.loop-item.invariant.from item (popped item c.loop-item.self.queue c.pop.new.self c.in-Some.ensures.taken) in
     let below : item < length c.args.placed.now =
-        All-contains (λ k. k < length c.args.placed.now) c.args.self.now.queue item c.requires among in
+    All-contains (λ k. k < length c.args.placed.now) c.args.self.now.queue item c.requires among in
     record {
       among = among;
       left = get_or_default c.args.placed.now item true false below ∙ c.if-not-placed-item.true;
@@ -32,12 +32,12 @@ returns-then-not-placed-item-clause-least c =
 pub returns-then-not-placed-item-clause-rest : goal.returns-then-not-placed-item-clause-rest
 returns-then-not-placed-item-clause-rest c other is left =
     kept_by_pop c.in-Some.item c.loop-item.self.queue c.pop.new.self c.in-Some.ensures.taken other
-        (c.loop-item.invariant.kept other is left)
+    (c.loop-item.invariant.kept other is left)
 
 pub returns-then-not-placed-item-clause-from : goal.returns-then-not-placed-item-clause-from
 returns-then-not-placed-item-clause-from c other is =
     c.loop-item.invariant.from other (in_popped c.in-Some.item c.loop-item.self.queue c.pop.new.self
-        c.in-Some.ensures.taken other is)
+    c.in-Some.ensures.taken other is)
 
 pub loop-item-smaller : goal.loop-item-smaller
 loop-item-smaller c = shorter c.in-Some.item c.loop-item.self.queue c.pop.new.self c.in-Some.ensures.taken
@@ -46,19 +46,19 @@ pub loop-item-preserved : goal.loop-item-preserved
 loop-item-preserved c =
     let item = c.in-Some.item in
     let among =
-        c.loop-item.invariant.from item (popped item c.loop-item.self.queue c.pop.new.self c.in-Some.ensures.taken) in
+    c.loop-item.invariant.from item (popped item c.loop-item.self.queue c.pop.new.self c.in-Some.ensures.taken) in
     let below : item < length c.args.placed.now =
-        All-contains (λ k. k < length c.args.placed.now) c.args.self.now.queue item c.requires among in
+    All-contains (λ k. k < length c.args.placed.now) c.args.self.now.queue item c.requires among in
     let done : get_or c.args.placed.now item true ≡ true =
-        get_or_default c.args.placed.now item true false below ∙ c.if-not-placed-item.false in
+    get_or_default c.args.placed.now item true false below ∙ c.if-not-placed-item.false in
     record {
       cursors = c.loop-item.invariant.cursors;
       kept =
           λ other is left. elim (kept_by_pop item c.loop-item.self.queue c.pop.new.self c.in-Some.ensures.taken other
           (c.loop-item.invariant.kept other is left)) [
-        | inl same ↦ absurd (both_ways (get_or c.args.placed.now item true) (rw same at left) done)
-        | inr kept ↦ kept
-      ];
+            | inl same ↦ absurd (both_ways (get_or c.args.placed.now item true) (rw same at left) done)
+            | inr kept ↦ kept
+          ];
       from =
           λ other is. c.loop-item.invariant.from other
           (in_popped item c.loop-item.self.queue c.pop.new.self c.in-Some.ensures.taken other is);

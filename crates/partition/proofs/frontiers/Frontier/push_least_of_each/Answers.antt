@@ -6,10 +6,10 @@ use Rattle.partition.proofs.frontiers.Frontier.push_least_of_each.Goals as goal
 pub loop-next-init : goal.loop-next-init
 loop-next-init c =
     let starts =
-        IsWalk-starts c.args.shared.now (length c.args.placed.now) c.args.edges_of_item.now c.args.item
-        c.args.placed.now c.args.self.now.queue c.requires.edges_of_item c.requires.item in
+    IsWalk-starts c.args.shared.now (length c.args.placed.now) c.args.edges_of_item.now c.args.item
+    c.args.placed.now c.args.self.now.queue c.requires.edges_of_item c.requires.item in
     let within : c.args.item < length c.args.edges_of_item.now.last.items =
-        omega (arith, c.requires.item, c.requires.edges_of_item.counted) in
+    omega (arith, c.requires.item, c.requires.edges_of_item.counted) in
     record {
       cursors = c.requires.cursors;
       walk =
@@ -24,8 +24,8 @@ loop-next-preserved c =
     let i = c.loop-next.invariant in
     let walk = rw c.in-Some.is at i.walk in
     let item_edge =
-        IsWalk-item_edge c.args.shared.now (length c.args.placed.now) c.args.edges_of_item.now c.args.item
-        c.args.placed.now c.loop-next.self.queue c.in-Some.place c.index-item_edge.result.now walk in
+    IsWalk-item_edge c.args.shared.now (length c.args.placed.now) c.args.edges_of_item.now c.args.item
+    c.args.placed.now c.loop-next.self.queue c.in-Some.place c.index-item_edge.result.now walk in
     let holds = rw (sym c.index-item_edge.ensures) at item_edge.1 in
     record {
       cursors = c.in_ok-push_least.ensures.cursors;
@@ -45,4 +45,4 @@ pub returns-clause-least_queued : goal.returns-clause-least_queued
 returns-clause-least_queued c =
     let walk = rw c.in_default.is at c.loop-next.invariant.walk in
     IsWalk-ends c.args.shared.now (length c.args.placed.now) c.args.edges_of_item.now c.args.item c.args.placed.now
-        c.loop-next.self.queue walk
+    c.loop-next.self.queue walk

@@ -11,8 +11,8 @@ index_mut-requires c =
     let placed = c.args.self.now.placed in
     let order = c.args.self.now.order.items in
     let is =
-        is_next-is (length placed.items) (λ _. 0) (are_adjacent c.args.shared.now) order
-        (batch_of c.args.size order) c.args.item c.requires.next in
+    is_next-is (length placed.items) (λ _. 0) (are_adjacent c.args.shared.now) order
+    (batch_of c.args.size order) c.args.item c.requires.next in
     omega (arith, is.below, placed.ok.0)
 
 pub push_least_of_each-requires-clause-shared : goal.push_least_of_each-requires-clause-shared
@@ -26,8 +26,8 @@ push_least_of_each-requires-clause-item c =
     let placed = c.args.self.now.placed in
     let order = c.args.self.now.order.items in
     let is =
-        is_next-is (length placed.items) (λ _. 0) (are_adjacent c.args.shared.now) order
-        (batch_of c.args.size order) c.args.item c.requires.next in
+    is_next-is (length placed.items) (λ _. 0) (are_adjacent c.args.shared.now) order
+    (batch_of c.args.size order) c.args.item c.requires.next in
     omega (arith, is.below, ap length c.deref.ensures.value, length-set placed.items c.args.item true)
 
 pub returns-clause-growth : goal.returns-clause-growth
@@ -40,13 +40,13 @@ returns-clause-growth c =
     let room = rw pushed at end.room in
     rw (end.placed, end.order, end.least, end.cursors, pushed)
     (Grows-more c.args.shared.now c.args.size g.placed.items g.order.items g.least g.frontier.cursors.items
-        g.frontier.queue c.args.item
+    g.frontier.queue c.args.item
     c.push_least_of_each.new.self.cursors.items c.end_full_batch.new.self.frontier.queue c.requires.growth
-        c.requires.next cursors
+    c.requires.next cursors
     (queued-after c.args.shared.now c.args.size g.order.items c.args.item g.frontier.queue
-        c.push_least_of_each.new.self.queue
+    c.push_least_of_each.new.self.queue
     c.end_full_batch.new.self.frontier.queue c.requires.size_range full room c.requires.growth.queued
-        c.in_ok-push_least_of_each.ensures.adds))
+    c.in_ok-push_least_of_each.ensures.adds))
 
 pub returns-clause-ready : goal.returns-clause-ready
 returns-clause-ready c =
@@ -58,6 +58,6 @@ returns-clause-ready c =
     let room = rw pushed at end.room in
     rw (end.placed, end.order, pushed)
     (ready-after c.args.shared.now c.args.size g.placed.items g.order.items c.args.item g.frontier.queue
-        c.push_least_of_each.new.self.queue
+    c.push_least_of_each.new.self.queue
     c.end_full_batch.new.self.frontier.queue c.requires.size_range full room c.requires.ready
-        c.in_ok-push_least_of_each.ensures.keeps entered)
+    c.in_ok-push_least_of_each.ensures.keeps entered)

@@ -21,10 +21,10 @@ pub returns-clause-taken : goal.returns-clause-taken
 returns-clause-taken c =
     rw (← c.self.view_is)
     (IsPermutation-map (λ x. x.0) (heap_items c.self.inside.heap)
-        (c.in_ok-number.field-0 ∷ heap_items c.pop.new.self) c.in_ok-number.ensures.permutation)
+    (c.in_ok-number.field-0 ∷ heap_items c.pop.new.self) c.in_ok-number.ensures.permutation)
 
 pub returns-clause-least : goal.returns-clause-least
 returns-clause-least c =
     rw (← c.self.view_is)
     (least c.in_ok-number.field-0 (heap_items c.self.inside.heap)
-        (c.in_ok-number.ensures.heap_order c.self.invariant).1)
+    (c.in_ok-number.ensures.heap_order c.self.invariant).1)

@@ -9,4 +9,4 @@ returns c =
     let added : Reverse ℕ = record { 0 = c.args.number } in
     rw (← c.self.view_is)
     (IsPermutation-map (λ x. x.0) (added ∷ heap_items c.self.inside.heap)
-        (heap_items c.push.new.self) c.in_ok-push.ensures.permutation)
+    (heap_items c.push.new.self) c.in_ok-push.ensures.permutation)

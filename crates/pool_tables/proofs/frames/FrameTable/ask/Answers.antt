@@ -8,4 +8,4 @@ invariant_of-self c =
     let old = c.self.inside.items.entries in
     let before = item_in old c.args.frame.0 in
     IsSnapshotList-same c.args.frame.0 (option_map (asked_item c.args.count) before) old c.ask_item.new.items.entries
-        c.self.inside.snapshots.items c.ask_item.ensures (asked-snapshot c.args.count before) c.self.invariant
+    c.self.inside.snapshots.items c.ask_item.ensures (asked-snapshot c.args.count before) c.self.invariant

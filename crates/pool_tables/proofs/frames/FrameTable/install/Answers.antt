@@ -8,5 +8,5 @@ invariant_of-self c =
     let old = c.self.inside.items.entries in
     let before = item_in old c.args.frame.0 in
     IsSnapshotList-same c.args.frame.0 (option_map (installed_item c.args.page) before) old
-        c.install_item.new.items.entries c.self.inside.snapshots.items c.install_item.ensures.installed
-        (installed-snapshot c.args.page before) c.self.invariant
+    c.install_item.new.items.entries c.self.inside.snapshots.items c.install_item.ensures.installed
+    (installed-snapshot c.args.page before) c.self.invariant

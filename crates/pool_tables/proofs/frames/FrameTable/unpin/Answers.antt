@@ -7,6 +7,8 @@ pub pop_stale-requires : goal.pop_stale-requires
 pop_stale-requires c =
     let old = c.self.inside.items.entries in
     let before = item_in old c.args.frame.0 in
-    record { listed = AreListed-unlisted c.args.frame.0
-        (option_map (ended_item c.args.count) before) old c.end_item.new.items.entries c.self.inside.snapshots.items
-        c.end_item.ensures (ended-snapshot c.args.count before) c.self.invariant }
+    record {
+      listed = AreListed-unlisted c.args.frame.0
+          (option_map (ended_item c.args.count) before) old c.end_item.new.items.entries c.self.inside.snapshots.items
+          c.end_item.ensures (ended-snapshot c.args.count before) c.self.invariant;
+    }

@@ -98,19 +98,17 @@ returns-clause-left c =
     rw (before, after) (pages_after-ring _ _ list.end _ ring) in
     let whole : ListedPages = record {
       capacity = list.end;
-      pages =
-          without c.args.page (pages_after list.next.items list.end list.end list.end);
+      pages = without c.args.page (pages_after list.next.items list.end list.end list.end);
     } in
     let at_view : whole ≡ record {
       capacity = c.args.self.now.capacity;
-      pages =
-          without c.args.page c.args.self.now.pages;
+      pages = without c.args.page c.args.self.now.pages;
     } = rw (← c.self.view_is) refl in
     let new : ListedPages = record {
       capacity = list.end;
       pages =
           pages_after (set list.next.items c.index-before.result.now c.index-after.result.now) list.end list.end
-              list.end;
+          list.end;
     } in
     let spelt : new ≡ whole = ap (λ pages. record { capacity = list.end; pages = pages }) found in
     spelt ∙ at_view

@@ -1,6 +1,5 @@
-use Rattle.std.proofs.Common.{
-  ◌≡◌, ℕ, ◌<◌, ◌≤◌, ◌&&◌, nat_lt, not, true, false, None, is_some, sym, ap, ◌∙◌, refl, arith,
-}
+use Rattle.std.proofs.Common.{◌≡◌, ℕ, ◌<◌, ◌≤◌, ◌&&◌, nat_lt, not, true, false, None, is_some, sym, ap, ◌∙◌, refl}
+use Rattle.std.proofs.Common.{arith}
 use Rattle.pool_rules.specs.Numbers.{is_among}
 use Rattle.pool_tables.specs.PageRecords.{record_at}
 use Rattle.pool_tables.specs.declared.page_record.PageRecord.{PageRecord}
@@ -22,8 +21,7 @@ invariant_of-self c =
       loader = None;
       last_used = c.args.count;
       installed_at = c.args.count;
-      load_ended_at =
-          c.args.count;
+      load_ended_at = c.args.count;
     } in
     let unlisted : is_among table.order.pages page ≡ false = c.self.invariant.0.listed page
     ∙ ap (λ b. b && not (nat_lt page table.roots)) absent in
