@@ -1,13 +1,10 @@
 -- A list of triangles of a mesh, and one more.
-use Rattle.std.proofs.Common.{◌+◌, ◌≤◌, ℕ, List, [], ◌∷◌, ◌++◌, All, length, arith}
-use Rattle.std.proofs.lemmas.List.{length_push, map-append}
+use Rattle.std.proofs.Common.{List, [], ◌∷◌, ◌++◌, All}
+use Rattle.std.proofs.lemmas.List.{map-append}
 use Rattle.std.proofs.lemmas.List.Elements.{All-push}
 use Rattle.geom_core.specs.declared.triangles.Tagged.{Tagged}
 use Rattle.geom_core.specs.Limits.{IsGridTriangle}
 use Rattle.geom_core.specs.TaggedLists.{tris_of}
-
-pub count-more : (tris : List Tagged) (t : Tagged) (n : ℕ) → length tris ≤ n → length (tris ++ t ∷ []) ≤ n + 1
-count-more tris t n few = omega (arith, length_push tris t)
 
 pub range-more : (tris : List Tagged) (t : Tagged) → All IsGridTriangle (tris_of tris) → IsGridTriangle t.tri →
     All IsGridTriangle (tris_of (tris ++ t ∷ []))
