@@ -29,8 +29,8 @@ triangles_of_box-one = refl
 
 -- the whole text of the box of one cell with number 0: eight vertices, six faces
 pub text_of_box-one : text_of_box 1 0 ≡
-    codes "v 0 0 0\nv 0 0 2048\nv 0 2048 0\nv 0 2048 2048\nv 2048 0 0\nv 2048 0 2048\nv 2048 2048 0\nv 2048 2048
-        2048\n" ++
+    codes "v 0 0 0\nv 0 0 2048\nv 0 2048 0\nv 0 2048 2048\nv 2048 0 0\nv 2048 0 2048\nv 2048 2048 0\n" ++
+    codes "v 2048 2048 2048\n" ++
     codes "f 1 2 4 3\nf 5 7 8 6\nf 1 5 6 2\nf 3 4 8 7\nf 1 3 7 5\nf 2 6 8 4\n"
 unfolding is_on_surface offset x_at y_at z_at same_place vertex_number digits
 text_of_box-one = refl
