@@ -8,6 +8,8 @@
 //! On `Memory` nothing is kept.
 #![tactic(auto)]
 
+#[cfg(test)]
+mod damage_tests;
 mod directories;
 mod fillings;
 mod headers;

@@ -11,9 +11,9 @@ use std::test::Fail;
 use two_squares::{two_squares, two_squares_heads};
 
 // Where page 0 and page 1 begin in the file of the two squares.
-const PAGE_0: usize = 324;
+pub(crate) const PAGE_0: usize = 324;
 
-const PAGE_1: usize = 65_860;
+pub(crate) const PAGE_1: usize = 65_860;
 
 const COUNTS: Counts = Counts {
     groups: 3,
@@ -25,7 +25,7 @@ const COUNTS: Counts = Counts {
 
 // How the file is changed.
 #[derive(Clone, Copy)]
-enum Change {
+pub(crate) enum Change {
     // It stays.
     Nothing,
     // It has so many bytes.
@@ -40,7 +40,7 @@ enum Change {
 
 // What comes of it.
 #[derive(Clone, Copy)]
-enum Want {
+pub(crate) enum Want {
     Opened,
     Fault(OpenFault),
     DirectoryDigest,
@@ -87,7 +87,7 @@ fn sealed(alloc: Global, records: &[u8], pages: &[u8]) -> Result<Vec<u8>, Fail> 
 }
 
 // The file of the two squares, changed.
-fn changed(rt: &impl Abort, alloc: Global, change: Change) -> Result<Vec<u8>, Fail> {
+pub(crate) fn changed(rt: &impl Abort, alloc: Global, change: Change) -> Result<Vec<u8>, Fail> {
     let mut records = records(alloc)?;
     let mut pages = pages(alloc)?;
     if let Change::Number(at, number) = change {
@@ -110,7 +110,7 @@ fn changed(rt: &impl Abort, alloc: Global, change: Change) -> Result<Vec<u8>, Fa
 }
 
 // Whether the opening of the source answers what is wanted.
-fn answers<P: PageSource>(alloc: Global, src: &mut P, want: Want) -> bool {
+pub(crate) fn answers<P: PageSource>(alloc: Global, src: &mut P, want: Want) -> bool {
     let answer = open_pages(alloc, src);
     match want {
         Want::Opened => matches!(answer, Ok(opened) if opened.roots.as_slice().len() == 1),
@@ -128,7 +128,7 @@ fn rule(number: u8, index: u32) -> Want {
     Want::Fault(OpenFault::Rule { number, index })
 }
 
-fn truncated(at: u64) -> Want {
+pub(crate) fn truncated(at: u64) -> Want {
     Want::Fault(OpenFault::Truncated { at })
 }
 
@@ -144,7 +144,7 @@ fn opens_changed_files(rt: HostRuntime) -> Result<(), Fail> {
         rule: 4,
         offset: 65_535,
     };
-    let rows: [(&str, Change, Want); 26] = [
+    let rows: [(&str, Change, Want); 28] = [
         ("unchanged", Change::Nothing, Want::Opened),
         ("the root page alone", Change::Cut(PAGE_1), Want::Opened),
         ("a byte less", Change::Cut(PAGE_1 - 1), truncated(65_859)),
@@ -172,7 +172,9 @@ fn opens_changed_files(rt: HostRuntime) -> Result<(), Fail> {
         ("a terminal", Change::Number(48, 2), bad(2, 44)),
         ("a box", Change::Number(8, 25), bad(3, 0)),
         ("a page", Change::Number(120, 3), bad(4, 88)),
+        ("nine members", Change::Number(128, 9), bad(5, 88)),
         ("a maker", Change::Number(140, 3), bad(6, 140)),
+        ("129 triangles", Change::Number(144, 129), bad(7, 140)),
         ("members out of order", Change::Number(80, 3), rule(1, 1)),
         (
             "a cluster made by its home",
@@ -203,6 +205,7 @@ fn opens_changed_files(rt: HostRuntime) -> Result<(), Fail> {
     Ok(())
 }
 
+// The reads are numbered from 1: the header, the directory, page 0.
 #[test]
 fn each_read_may_fail(rt: HostRuntime) -> Result<(), Fail> {
     let alloc = rt.alloc();
@@ -215,8 +218,11 @@ fn each_read_may_fail(rt: HostRuntime) -> Result<(), Fail> {
     ];
     for (failing, want) in rows {
         let file = changed(&rt, alloc, Change::Nothing)?;
-        let mut source = MemoryPages::of(file, failing.to_vec(alloc)?);
+        let mut source = MemoryPages::of(file.clone()?, failing.to_vec(alloc)?);
         assert!(rt; answers(alloc, &mut source, want), "{failing:?}");
+        let again = MemoryPages::of(file, failing.to_vec(alloc)?);
+        let mut boxed: Box<dyn PageSource + Send> = Box::new(alloc, again)?;
+        assert!(rt; answers(alloc, &mut boxed, want), "{failing:?}, in a box");
     }
     Ok(())
 }
