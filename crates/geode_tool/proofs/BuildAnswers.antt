@@ -1,27 +1,19 @@
 -- What a DAG that was built, or a fault before it, says of the promise of `build`.
-use Rattle.std.proofs.Common.{◌≡◌, ◌==◌, ◌∙◌, ◌≤◌, ℕ, List, Bool, true, false, Option, Some, None, Result, Ok, Err, pos}
-use Rattle.std.proofs.Common.{inl, inr, ap, sym, subst, refl, cond}
+use Rattle.std.proofs.Common.{◌≡◌, ◌≤◌, ℕ, List, Bool, Option, Some, None, Result, Ok, Err, pos, inl, ap}
+use Rattle.std.proofs.Common.{sym, subst, refl}
 use Rattle.std.specs.Prelude.{IsErr, IfErr}
 use Rattle.std.specs.Result.{IsErrAnd}
 use Rattle.geom_core.specs.declared.limits.TheConstants.{STEPS_PER_UNIT}
 use Rattle.geom_core.specs.declared.triangles.Tri.{Tri}
-use Rattle.geom_core.specs.Limits.{AreGridTriangles}
-use Rattle.dag_build.specs.Built.{IsBuilt}
-use Rattle.dag_build.proofs.BuiltDags.{laid_out}
-use Rattle.dag_build.proofs.MadeSums.{edge_sums}
-use Rattle.dag_build.proofs.SourceTris.{corners, each_source, source_is}
 use Rattle.dag_core.specs.declared.counts.Counts.{Counts}
 use Rattle.dag_core.specs.declared.dags.Dag.{Dag}
 use Rattle.dag_core.specs.Ranges.{counts_of}
-use Rattle.dag_core.specs.TriangleRules.{breaks_corners, breaks_source, breaks_sums, dag_breaks}
 use Rattle.obj_source.specs.declared.faults.ObjFault.{ObjFault}
 use Rattle.obj_source.specs.Readings.{Listed, ReadsUpTo, Refused}
 use Rattle.page_codec.specs.Spelling.{file_bytes}
 use Rattle.page_file.specs.declared.page_writes.PageWrite.{PageWrite}
 use Rattle.page_file.specs.declared.page_writes.PageWrite.TheVariants as writes
 use Rattle.page_file.specs.WrittenFiles.{AppendsPrefix}
-use Rattle.page_file.specs.PagesRule as pages
-use Rattle.page_file.proofs.LaidTriangles.{same_source, stays_sound}
 use Rattle.span_io.specs.Faults.{Rose}
 use Rattle.span_io.specs.Reads.{ReadToEnd}
 use Rattle.geode_tool.specs.declared.commands.Command.TheVariants.{Build, Draw}
@@ -30,8 +22,8 @@ use Rattle.geode_tool.specs.declared.faults.Done.{Done}
 use Rattle.geode_tool.specs.declared.faults.Done.TheVariants.{Built}
 use Rattle.geode_tool.specs.declared.faults.Fault.{Fault}
 use Rattle.geode_tool.specs.declared.faults.Fault.TheVariants.{Memory, WriteFault}
-use Rattle.geom_core.specs.Camera.{Direction, View}
-use Rattle.geode_tool.specs.Build.{IsBuiltFrom, IsFileFrom}
+use Rattle.geom_core.specs.Camera.{Direction}
+use Rattle.geode_tool.specs.Build.{IsBuiltFrom}
 use Rattle.geode_tool.specs.Faults.{fault_of_obj, fault_of_pages}
 use Rattle.geode_tool.specs.Inputs.{inputs_of, streams}
 use Rattle.geode_tool.specs.Headline.{Holds}
@@ -42,35 +34,6 @@ use Rattle.geode_tool.specs.FaultTable.{IsOutside}
 use Rattle.geode_tool.specs.Verdicts.{Answers}
 use Rattle.geode_tool.proofs.DrawAnswers.{memory_refused, mesh_answer-from, obj_refused, write-reads}
 use Rattle.geode_tool.proofs.Promise.{accepted-answers, promise-refused, promise-unwritten, IsMade}
-
--- ---- a built DAG, laid out, is sound
-
-no_rule : (a b c x y z : Bool) → x ≡ false → y ≡ false → z ≡ false → cond a x (cond b y (cond c z false)) ≡ false
-no_rule true b c x y z sums source corner = sums
-no_rule false true c x y z sums source corner = source
-no_rule false false true x y z sums source corner = corner
-no_rule false false false x y z sums source corner = refl
-
-all_rules : (tris : List Tri) (dag : Dag) → AreGridTriangles tris → IsBuilt tris dag → (rule index : ℕ) →
-    dag_breaks rule dag index ≡ false
-all_rules tris dag mesh built rule index =
-    no_rule (rule == 6) (rule == 7) (rule == 8) (breaks_sums dag index) (breaks_source dag index)
-    (breaks_corners dag index)
-    (edge_sums tris dag index mesh built) (each_source tris dag index mesh built) (corners tris dag index mesh built)
-
-pub built_from : (left : Option (List ℕ)) (tris : List Tri) (dag laid : Dag) → Listed STEPS_PER_UNIT left tris →
-    AreGridTriangles tris →
-    IsBuilt tris dag → laid ≡ pages.laid_out dag → IsBuiltFrom left laid
-built_from left tris dag laid listed mesh built on_pages =
-    subst (IsBuiltFrom left) (sym on_pages) (record {
-      tris = tris;
-      listed = listed;
-      dag = dag;
-      built = built;
-      on_pages = refl;
-      sound = stays_sound dag (laid_out tris dag mesh built) (all_rules tris dag mesh built);
-      source = same_source dag ∙ source_is tris dag mesh built;
-    })
 
 -- ---- the faults of reading are those of `draw`, whatever picture is requested
 
@@ -133,12 +96,7 @@ pub file_made : (left new_left : Option (List ℕ)) (faults new_faults : ℕ) (l
     counts ≡ counts_of laid.heads → ReadToEnd left new_left → new_faults ≡ faults →
     IsMade Build left new_left faults new_faults (Built counts) (file_bytes laid)
 file_made left new_left faults new_faults laid counts built counted ended no_fault = record {
-  does =
-      record {
-        counts = counts;
-        told = refl;
-        file = record { laid = laid; built = built; file = refl; counted = counted };
-      };
+  does = record { laid = laid; built = built; told = ap Built counted; file = refl };
   accepted = accepted_built left counts built.tris built.listed;
   input_read = ended;
   reads = record { reading = λ why e. absurd (write-reads why e); writing = λ e. ended };

@@ -7,6 +7,7 @@ pub mod DrawAnswers
 pub mod DrawExamples
 pub mod DrawWords
 pub mod DrawnItems
+pub mod EarlyMemory
 pub mod MakeAnswers
 pub mod MakeExamples
 pub mod MakeWords
@@ -14,3 +15,4 @@ pub mod NumberParts
 pub mod Numerals
 pub mod WordExamples
 pub mod Promise
+pub mod SoundBuilds

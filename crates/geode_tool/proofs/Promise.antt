@@ -7,18 +7,22 @@ use Rattle.span_io.specs.Faults.{Rose}
 use Rattle.span_io.specs.Puts.{Appended}
 use Rattle.geode_tool.specs.declared.commands.Command.{Command}
 use Rattle.geode_tool.specs.declared.commands.Command.TheVariants.{Draw, Audit, Make, Build}
+use Rattle.dag_core.specs.declared.counts.Counts.{Counts}
 use Rattle.geode_tool.specs.declared.faults.Done.{Done}
+use Rattle.geode_tool.specs.declared.faults.Done.TheVariants.{Built}
 use Rattle.geode_tool.specs.declared.faults.Fault.{Fault}
 use Rattle.geode_tool.specs.declared.faults.Fault.TheVariants.{Usage, ReadFault, TooLong, BadObj, TooMany, Empty}
 use Rattle.geode_tool.specs.declared.faults.Fault.TheVariants.{BadJournal, Illegal, WriteFault, Memory}
 use Rattle.geode_tool.specs.declared.faults.UsageKind.{UsageKind}
+use Rattle.geode_tool.specs.Build.{DoesBuild}
 use Rattle.geode_tool.specs.Commands.{verdict_of, Does, HasRead, ReadsUpTo}
 use Rattle.geode_tool.specs.FaultTable.{IsMemory, IsOutside, MayReturn}
 use Rattle.geode_tool.specs.Headline.{Holds}
-use Rattle.geode_tool.specs.Inputs.{inputs_of, Streams, streams}
+use Rattle.geode_tool.specs.Inputs.{Inputs, inputs_of, Streams, streams}
 use Rattle.geode_tool.specs.Internal.Unwritten.{StopsUnwritten}
 use Rattle.geode_tool.specs.Verdicts.{Verdict, Answers, verdict_from}
 use Rattle.geode_tool.specs.Verdicts.Verdict.{Refuses, Accepts, Undecided}
+use Rattle.geode_tool.proofs.SoundBuilds.{built_sound}
 
 -- a failure of the outside may be the answer, whatever the verdict
 pub outside-answers : (verdict : Verdict) (fault : Fault) → IsOutside fault → Answers IsOutside verdict (Err fault)
@@ -62,6 +66,23 @@ complete-answers (Refuses first) fault no_read no_write answers = elim answers [
 complete-answers Accepts fault no_read no_write answers = memory-else fault no_read no_write answers
 complete-answers Undecided fault no_read no_write answers = tt
 
+-- a success with counts is one of `build`
+built_does : (command : Command) (inputs : Inputs) (done : Done) (text : List ℕ) (counts : Counts) →
+    Does command inputs done text → done ≡ Built counts → DoesBuild inputs (Built counts) text
+built_does (Draw request) inputs done text counts does is = cc (sym does.0 ∙ is)
+built_does Audit inputs done text counts does is = cc (sym does.told ∙ is)
+built_does (Make request) inputs done text counts does is = cc (sym does.0 ∙ is)
+built_does Build inputs done text counts does is = subst (λ (d : Done). DoesBuild inputs d text) is does
+
+same_done : (done other : Done) → ◌≡◌ {A = Result Done Fault} (Ok done) (Ok other) → done ≡ other
+same_done done other is = cc is
+
+same_counts : (counts other : Counts) → Built counts ≡ Built other → counts ≡ other
+same_counts counts other is = cc is
+
+no_counts : (fault : Fault) (counts : Counts) → ◌≡◌ {A = Result Done Fault} (Err fault) (Ok (Built counts)) → ⊥
+no_counts fault counts is = cc is
+
 -- a fault before the first write
 pub promise-refused : {K : Type 0} (command : Command) (left new_left : Option (List ℕ)) (faults new_faults : ℕ)
     (written : Option (List ℕ)) (flushed : Bool) (output_faults : ℕ) (output : K) (r : Result Done Fault)
@@ -82,6 +103,9 @@ promise-refused command left new_left faults new_faults written flushed output_f
           λ no_read no_write. complete-answers (verdict_of command (inputs_of left)) e
           (λ is. no_read (stops.cause is)) stops.no_write stops.answered;
       written = tt;
+      built = λ counts is. absurd (no_counts e counts is);
+      sound = λ counts is. absurd (no_counts e counts is);
+      counted = λ counts is. absurd (no_counts e counts is);
       flushed = tt;
       input_read = tt;
       refusals = stops.may_return;
@@ -123,6 +147,9 @@ promise-unwritten command left new_left faults new_faults written new_written fl
       answered = outside-answers (verdict_of command (inputs_of left)) WriteFault refl;
       complete = λ no_read no_write. absurd (no_write rose);
       written = tt;
+      built = λ counts is. absurd (no_counts WriteFault counts is);
+      sound = λ counts is. absurd (no_counts WriteFault counts is);
+      counted = λ counts is. absurd (no_counts WriteFault counts is);
       flushed = tt;
       input_read = tt;
       refusals = made.may_fail;
@@ -157,6 +184,17 @@ promise-done command left new_left faults new_faults written new_written flushed
       answered = made.accepted;
       complete = λ no_read no_write. success-answers (verdict_of command (inputs_of left)) done made.accepted;
       written = record { text = text; is_output = made.does; appended = appended };
+      built = λ counts is. record {
+        text = text;
+        is_output = built_does command (inputs_of left) done text counts made.does (same_done done _ is);
+        appended = appended;
+      };
+      sound = λ counts is.
+          let does = built_does command (inputs_of left) done text counts made.does (same_done done _ is) in
+          built_sound left does.laid does.built;
+      counted = λ counts is.
+          let does = built_does command (inputs_of left) done text counts made.does (same_done done _ is) in
+          same_counts counts _ does.told;
       flushed = is_flushed;
       input_read = made.input_read;
       refusals = tt;

@@ -3,7 +3,6 @@ use Rattle.std.specs.Prelude.{◌≡◌, ℕ, List, Option}
 use Rattle.geom_core.specs.declared.limits.TheConstants.{STEPS_PER_UNIT}
 use Rattle.geom_core.specs.declared.triangles.Tri.{Tri}
 use Rattle.dag_build.specs.Built.{IsBuilt}
-use Rattle.dag_core.specs.declared.counts.Counts.{Counts}
 use Rattle.dag_core.specs.declared.dags.Dag.{Dag}
 use Rattle.dag_core.specs.Ranges.{counts_of}
 use Rattle.dag_core.specs.TriangleRules.{Sound}
@@ -22,30 +21,25 @@ use Rattle.geode_tool.specs.Verdicts.{Verdict}
 abbrev pub build_verdict : Inputs → Verdict
 build_verdict inputs = draw_verdict inputs
 
--- The laid-out DAG is that of the levels of detail of the mesh in the input's bytes: it is sound, and its source mesh
--- is
--- that mesh. If the bytes are not known, it is that of the mesh in some text.
+-- The laid-out DAG is that of the levels of detail of the mesh in the input's bytes. If the bytes are not known, it is
+-- that of the mesh in some text.
 pub record IsBuiltFrom (input : Option (List ℕ)) (laid : Dag) : Type 0 where
   pub tris : List Tri
   pub listed : Listed STEPS_PER_UNIT input tris
   pub dag : Dag
   pub built : IsBuilt tris dag
   pub on_pages : laid ≡ laid_out dag
-  pub sound : Sound laid
-  pub source : source_of laid ≡ tris
 
--- the text is the page file of such a DAG, and these are its counts
-pub record IsFileFrom (input : Option (List ℕ)) (counts : Counts) (text : List ℕ) : Type 0 where
-  pub laid : Dag
-  pub built : IsBuiltFrom input laid
-  pub file : text ≡ file_bytes laid
-  pub counted : counts ≡ counts_of laid.heads
-
--- what a success is, and the text that it writes
+-- what a success is, and the text that it writes: the page file of such a DAG
 pub record DoesBuild (inputs : Inputs) (done : Done) (text : List ℕ) : Type 0 where
-  pub counts : Counts
-  pub told : done ≡ Built counts
-  pub file : IsFileFrom inputs.text counts text
+  pub laid : Dag
+  pub built : IsBuiltFrom inputs.text laid
+  pub told : done ≡ Built (counts_of laid.heads)
+  pub file : text ≡ file_bytes laid
+
+-- the DAG in the file is sound, and its source mesh is the mesh that it was built from
+abbrev pub IsSoundBuild : {inputs : Inputs} → {done : Done} → {text : List ℕ} → DoesBuild inputs done text → Type 0
+IsSoundBuild does = Sound does.laid × (source_of does.laid ≡ does.built.tris)
 
 -- how far the input was read before a refusal: as `draw` reads it
 abbrev pub BuildReadsUpTo : Option (List ℕ) → Option (List ℕ) → Fault → Type 0

@@ -2,12 +2,16 @@
 --
 -- Commands to come keep the sense of each field. The causes of journal entries will be a field of their own, over the
 -- counts of the sources before and after; a field `partial` will say what a value inside `WriteFault` or `Memory` is.
-use Rattle.std.specs.Prelude.{◌≡◌, ◌≢◌, ◌≤◌, ℕ, true, List, Result, IfOk, IfErr, OnOk}
+use Rattle.std.specs.Prelude.{◌≡◌, ◌≢◌, ◌≤◌, ℕ, true, List, Result, Ok, IfOk, IfErr, OnOk}
+use Rattle.dag_core.specs.declared.counts.Counts.{Counts}
+use Rattle.dag_core.specs.Ranges.{counts_of}
 use Rattle.span_io.specs.Faults.{Rose}
 use Rattle.geode_tool.specs.declared.commands.Command.{Command}
 use Rattle.geode_tool.specs.declared.faults.Done.{Done}
+use Rattle.geode_tool.specs.declared.faults.Done.TheVariants.{Built}
 use Rattle.geode_tool.specs.declared.faults.Fault.{Fault}
 use Rattle.geode_tool.specs.declared.faults.Fault.TheVariants.{ReadFault, WriteFault, Memory}
+use Rattle.geode_tool.specs.Build.{DoesBuild, IsSoundBuild}
 use Rattle.geode_tool.specs.Commands.{verdict_of, Does, HasRead, ReadsUpTo, TakesMemoryFirst}
 use Rattle.geode_tool.specs.FaultTable.{IsMemory, IsOutside, MayReturn}
 use Rattle.geode_tool.specs.Inputs.{Inputs, Streams}
@@ -46,6 +50,14 @@ pub record Holds {K : Type 0} (command : Command) (before after : Streams K) (re
       → Answers IsMemory (verdict_of command before.inputs) result
   -- a success has written exactly its text
   pub written : IfOk result (λ done. WritesAll (Does command before.inputs done) before.written after.written)
+  -- `build` has written the page file of the DAG that is built from the triangles in its input
+  pub built : (counts : Counts) → result ≡ Ok (Built counts)
+      → WritesAll (DoesBuild before.inputs (Built counts)) before.written after.written
+  -- (that DAG is sound, and its source mesh is these triangles)
+  pub sound : (counts : Counts) → (is : result ≡ Ok (Built counts)) → IsSoundBuild (built counts is).is_output
+  -- (the counts that it returns are those of the file)
+  pub counted : (counts : Counts) → (is : result ≡ Ok (Built counts))
+      → counts ≡ counts_of (built counts is).is_output.laid.heads
   -- flushed it
   pub flushed : OnOk result (after.flushed ≡ true)
   -- and read all input, if the command takes input

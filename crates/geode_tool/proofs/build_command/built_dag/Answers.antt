@@ -1,5 +1,5 @@
 use Rattle.dag_build.proofs.BuiltDags.{laid_out}
-use Rattle.geode_tool.proofs.BuildAnswers.{built_from, mesh_refused}
+use Rattle.geode_tool.proofs.BuildAnswers.{mesh_refused}
 use Rattle.geode_tool.proofs.build_command.built_dag.Goals as goal
 
 pub lay_out-requires : goal.lay_out-requires
@@ -8,10 +8,13 @@ lay_out-requires g c = record {
 }
 
 pub returns-clause-built : goal.returns-clause-built
-returns-clause-built g c =
-    built_from _ c.in_ok-tris.tris.items c.in_ok-dag.dag c.in_ok-lay_out.field-0 c.in_ok-tris.ensures.listed
-    c.in_ok-tris.ensures.sound
-    c.in_ok-dag.ensures.built c.in_ok-lay_out.ensures.dag
+returns-clause-built g c = record {
+  tris = c.in_ok-tris.tris.items;
+  listed = c.in_ok-tris.ensures.listed;
+  dag = c.in_ok-dag.dag;
+  built = c.in_ok-dag.ensures.built;
+  on_pages = c.in_ok-lay_out.ensures.dag;
+}
 
 pub returns-in_err-tris-clause-refused : goal.returns-in_err-tris-clause-refused
 returns-in_err-tris-clause-refused g c =
