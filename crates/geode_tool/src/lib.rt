@@ -9,6 +9,8 @@ mod audit_command;
 #[cfg(test)]
 mod audit_tests;
 mod build_command;
+#[cfg(test)]
+mod build_tests;
 mod commands;
 mod draw_command;
 mod draw_mesh;

@@ -47,7 +47,8 @@ const UNENDED: &str = "v -1 0 1\nv 1 0 1\nv 1 0 -1\nf 1 2 3";
 
 const EQUAL_POINTS: &str = "v 0 0 0\nv 0.0001 0 0\nv 1 0 0\nf 1 2 3\n";
 
-const EXPORT: &str = "# Blender\nmtllib plane.mtl\no Plane\nv -1.000000 0.000000 1.000000\n\
+pub(crate) const EXPORT: &str =
+    "# Blender\nmtllib plane.mtl\no Plane\nv -1.000000 0.000000 1.000000\n\
     v 1.000000 0.000000 1.000000\nv -1.000000 0.000000 -1.000000\n\
     v 1.000000 0.000000 -1.000000\nvn -0.0000 1.0000 -0.0000\nvt 0.000000 0.000000\n\
     vt 1.000000 0.000000\nvt 0.000000 1.000000\nvt 1.000000 1.000000\ns 0\n\
@@ -105,6 +106,9 @@ const TWO: Pixels = [O, O, O, O, O, B, A, O, O, A, A, O, O, O, O, O];
 const DEEP: Pixels = [O, O, O, O, O, O, P, O, O, Q, Q, O, O, O, O, O];
 
 const LAST: Pixels = [O, O, O, O, O, O, Z, O, O, Z, Z, O, O, O, O, O];
+
+/// Bytes of room in the sink: three pages and more than their directory.
+const ROOM: u64 = 262_144;
 
 /// The bytes of the text of such a picture.
 const TEXT_LEN: u64 = 272;
@@ -194,7 +198,7 @@ pub(crate) fn run(
     let failing_reads = vec![in alloc; calls.failing_read]?;
     let failing_writes = vec![in alloc; calls.failing_write]?;
     let mut input = MemorySource::of(text, calls.most, failing_reads);
-    let mut out = MemorySink::of(alloc, 65_536, calls.most, failing_writes)?;
+    let mut out = MemorySink::of(alloc, ROOM, calls.most, failing_writes)?;
     let answer = geode(alloc, words, &mut input, &mut out);
     Ok(Outcome {
         said: said(alloc, &answer)?,
