@@ -4,10 +4,12 @@ const USAGE: &str = "\
 usage: geode draw WIDTH HEIGHT CAMERA < model.obj > picture.txt
        geode audit < journal.txt
        geode make SIZE NUMBER > box.obj
+       geode build < model.obj > model.geo
 WIDTH and HEIGHT are 1 to 512. CAMERA is fifteen whole numbers between commas: focal length 1 to 4096,
 near 16384 to 17179869184, tolerance 0 to 65535, then x,y,z of the eye, -16777216 to 16777216, and x,y,z of
 right, down and forward, -16384 to 16384. tools/look_at.py prints the CAMERA that sees a model.
-SIZE is 1 to 295, NUMBER 0 to 4294967295.";
+SIZE is 1 to 295, NUMBER 0 to 4294967295.
+build reads the OBJ text that draw reads, with the same faults, and writes the page file of its levels of detail.";
 
 const BAD_NUMBER: &str =
     "The last number is that of the word, the `v` being word 0: words 1 to 3 are numbers such as -1.5 or 2e-3.";
