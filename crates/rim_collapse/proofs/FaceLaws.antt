@@ -118,7 +118,7 @@ replaced-face points a b f ascending in_a numbered =
       point-renumbered points a b f.c ascending in_a numbered.c,
     )
 
-distinct-face : (points : List Pt) (f : Face) → IsAscending points → IsNumbered (length points) f →
+pub distinct-face : (points : List Pt) (f : Face) → IsAscending points → IsNumbered (length points) f →
     has_distinct_corners (tri_at points f) ≡ has_distinct_numbers f
 unfolding has_distinct_corners has_distinct_numbers
 distinct-face points f ascending numbered =

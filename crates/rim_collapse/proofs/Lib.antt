@@ -1,4 +1,5 @@
 pub mod BestLaws
+pub mod CollapsedFaces
 pub mod Determined
 pub mod Examples
 pub mod FaceLaws

@@ -1,4 +1,5 @@
 ghost use Rattle.std.specs.Prelude.{◌≡◌, ◌≤◌, ◌<◌, ℕ, true, false, List, None, IfOk, OnOk, length, All, slice_index_or};
+ghost use Rattle.std.specs.Prelude.{if◌then◌else◌};
 ghost use Rattle.geom_core.specs.declared.limits.TheConstants.{TRIANGLES_PER_GROUP};
 ghost use Rattle.geom_core.specs.declared.points.Pt.{Pt};
 ghost use Rattle.geom_core.specs.declared.triangles.Tri.{Tri};
@@ -31,15 +32,15 @@ fn best_at(
     Ok(best)
 }
 
-/// Returns the lesser of two collapses, of which one or both may be missing.
-fn lesser(best: Option<Key>, other: Option<Key>) -> Option<Key>
-    ensures { result ≡ lesser_of best other }
+/// Whether the collapse of one point sorts before that of another; both may be missing.
+fn goes_before(other: &Option<Key>, best: &Option<Key>) -> bool
+    ensures { lesser_of best.now other.now ≡ (if result then other.now else best.now) }
 {
-    match best {
-        None => other,
-        Some(key) => match other {
-            None => best,
-            Some(next) => { if next.cmp(&key).is_lt() { other } else { best } }
+    match other {
+        None => false,
+        Some(next) => match best {
+            None => true,
+            Some(key) => next.cmp(key).is_lt(),
         },
     }
 }
@@ -49,11 +50,16 @@ pub(crate) fn least_best(bests: &[Option<Key>]) -> Option<Key>
     ensures { (tris : List Tri) → (locked points : List Pt) → length bests.now ≡ length points →
         AreRight tris locked points bests.now → IsBestAmong tris locked points result }
 {
-    let mut least = None;
-    for best in bests {
-        least = lesser(least, *best);
+    if bests.is_empty() {
+        return None;
     }
-    least
+    let mut least = 0;
+    'bests: for k in 1..bests.len() {
+        if goes_before(&bests[k], &bests[least]) {
+            least = k;
+        }
+    }
+    bests[least]
 }
 
 /// Asks the marked points anew: puts the least legal collapse of each over the near triangles in place of what was

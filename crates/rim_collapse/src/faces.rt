@@ -1,4 +1,5 @@
-ghost use Rattle.std.specs.Prelude.{◌≡◌, ◌≤◌, ◌<◌, ◌*◌, IfOk, OnOk, length, All, AllPairs, Contains};
+ghost use Rattle.std.specs.Prelude.{◌≡◌, ◌≤◌, ◌<◌, ◌*◌, ◌+◌, ◌++◌, IfOk, IsTrue, length, take, drop, All};
+ghost use Rattle.std.specs.Prelude.{AllPairs, Contains};
 ghost use Rattle.std.specs.declared.cmp.Ordering.TheVariants.{Less};
 ghost use Rattle.geom_core.specs.declared.limits.TheConstants.{TRIANGLES_PER_GROUP};
 ghost use Rattle.geom_core.specs.declared.points.Pt.{Pt};
@@ -74,18 +75,34 @@ fn has_distinct_numbers(face: Face) -> bool
     face.a != face.b && face.b != face.c && face.c != face.a
 }
 
-/// Lists the faces after a collapse of a to b, in place of what was listed.
-pub(crate) fn list_after(next: &mut Vec<Face>, faces: &[Face], a: u32, b: u32) -> Result<(), Memory>
-    ensures { OnOk result (next.new.items ≡ faces_after a b faces.now) }
+/// Does a collapse of a to b: replaces a by b in each face, and drops those that then have a number twice. The other
+/// faces keep their order. Only faces with a change, so the list is closed up in place.
+pub(crate) fn collapse_faces(faces: &mut Vec<Face>, a: u32, b: u32)
+    requires distinct { All (λ f. IsTrue (has_distinct_numbers f)) faces.old.items }
+    ensures { faces.new.items ≡ faces_after a b faces.old.items }
 {
-    next.clear();
-    for face in faces {
-        let moved = face_to(*face, a, b);
-        if has_distinct_numbers(moved) {
-            next.push(moved)?;
+    let mut k = faces.len();
+    'faces: while k > 0 {
+        k -= 1;
+        if has_number(faces[k], a) {
+            collapse_face(faces, k, a, b);
         }
     }
-    Ok(())
+}
+
+/// Replaces a by b in the face with this index, or drops it if it then has a number twice.
+fn collapse_face(faces: &mut Vec<Face>, k: usize, a: u32, b: u32)
+    requires index { k < length faces.old.items }
+    ensures { faces.new.items
+        ≡ take k faces.old.items
+        ++ (faces_after a b (take 1 (drop k faces.old.items)) ++ drop (k + 1) faces.old.items) }
+{
+    let moved = face_to(faces[k], a, b);
+    if has_distinct_numbers(moved) {
+        faces[k] = moved;
+    } else {
+        faces.remove(k);
+    }
 }
 
 /// Returns the point with this number.

@@ -1,4 +1,4 @@
-ghost use Rattle.std.specs.Prelude.{◌≡◌, ◌≤◌, IsTrue, OnOk, length, map, sum_by, All};
+ghost use Rattle.std.specs.Prelude.{◌≡◌, ◌≤◌, ◌<◌, IfSome, IsTrue, None, OnOk, length, map, sum_by, All};
 ghost use Rattle.std.specs.List.{list_all};
 ghost use Rattle.geom_core.specs.declared.limits.TheConstants.{TRIANGLES_PER_GROUP};
 ghost use Rattle.geom_core.specs.Limits.{IsGridPoint, IsGridTriangle};
@@ -6,11 +6,15 @@ ghost use Rattle.rim_collapse.specs.Cost.{around};
 ghost use Rattle.rim_collapse.specs.Internal.Facets.{IsFacet, facet_cost, facet_keeps, facet_of};
 ghost use Rattle.rim_collapse.specs.Internal.Sizes.{IsWithin};
 ghost use Rattle.rim_collapse.specs.Legal.{keeps_facing};
+ghost use Rattle.rim_collapse.specs.declared.facets.TheConstants.{COST_MAX};
 ghost use Rattle.rim_collapse.specs.declared.vectors.TheConstants.{NORMAL_LIMIT};
 
 use crate::corners::{has_corner, replaced};
 use crate::vectors::{Vector, dot, normal};
 use geom_core::{Memory, Pt, Tri};
+
+/// More than any collapse costs.
+pub(crate) const COST_MAX: u128 = u128::MAX;
 
 /// A triangle round the point that may move, with its normal.
 #[derive(Clone, Copy, Debug)]
@@ -38,18 +42,22 @@ pub(crate) fn list_facets(facets: &mut Vec<Facet>, tris: &[Tri], a: Pt) -> Resul
     Ok(())
 }
 
-/// Returns the cost of moving the facets' common corner by this offset.
-pub(crate) fn cost_of(facets: &[Facet], offset: Vector) -> u128
+/// Returns the cost of moving the facets' common corner by this offset, or `None` if it is above `most`.
+pub(crate) fn cost_within(facets: &[Facet], offset: Vector, most: u128) -> Option<u128>
     requires facet_limit { length facets.now ≤ TRIANGLES_PER_GROUP }
     requires facets { All (λ f. IsWithin NORMAL_LIMIT f.normal) facets.now }
     requires offset { IsWithin NORMAL_LIMIT offset }
-    ensures { result ≡ sum_by (facet_cost offset) facets.now }
+    ensures cost { IfSome result (λ cost. cost ≡ sum_by (facet_cost offset) facets.now) }
+    ensures above { result ≡ None → (most < sum_by (facet_cost offset) facets.now) × (most < COST_MAX) }
 {
     let mut total = 0u128;
-    for facet in facets {
+    'facets: for facet in facets {
         total += dot(facet.normal, offset).unsigned_abs();
+        if total > most {
+            return None;
+        }
     }
-    total
+    Some(total)
 }
 
 /// Whether the facet doesn't turn over where b replaces its corner a.

@@ -1,15 +1,17 @@
-ghost use Rattle.std.specs.Prelude.{◌≡◌, ◌≤◌, ◌||◌, Bool, true, IfOk, length, All, Contains};
+ghost use Rattle.std.specs.Prelude.{◌≡◌, ◌≤◌, ◌<◌, ◌||◌, Bool, false, true, IfOk, length, All, Contains};
 ghost use Rattle.std.specs.List.{list_any};
 ghost use Rattle.geom_core.specs.declared.limits.TheConstants.{TRIANGLES_PER_GROUP};
 ghost use Rattle.geom_core.specs.declared.points.Pt.{Pt};
 ghost use Rattle.geom_core.specs.Corners.{has_corner};
 ghost use Rattle.geom_core.specs.EdgeSum.{same_point};
 ghost use Rattle.geom_core.specs.Limits.{IsGridTriangle};
+ghost use Rattle.rim_collapse.specs.declared.facets.TheConstants.{COST_MAX};
+ghost use Rattle.rim_collapse.specs.declared.keys.Key.{Key};
 ghost use Rattle.rim_collapse.specs.Internal.Bests.{IsBestOf, beats};
 ghost use Rattle.rim_collapse.specs.Internal.Facets.{IsFacet, tris_in};
 
 use crate::corners::is_same;
-use crate::facets::{Facet, cost_of, is_legal, list_facets};
+use crate::facets::{COST_MAX, Facet, cost_within, is_legal, list_facets};
 use crate::keys::Key;
 use crate::vectors::minus;
 use geom_core::{Memory, Pt, Tri, cheb};
@@ -24,6 +26,16 @@ fn beats(key: Key, best: Option<Key>) -> bool
     }
 }
 
+/// Returns the cost above which no collapse sorts before the best so far.
+fn cost_limit(best: Option<Key>) -> u128
+    ensures { (key : Key) → result < key.cost → result < COST_MAX → beats key best ≡ false }
+{
+    match best {
+        None => COST_MAX,
+        Some(best) => best.cost,
+    }
+}
+
 /// Returns the collapse of `a` to `b` if it is legal and sorts before the best so far, else the best so far.
 fn better(facets: &[Facet], a: Pt, b: Pt, best: Option<Key>) -> Option<Key>
     requires facet_limit { length facets.now ≤ TRIANGLES_PER_GROUP }
@@ -35,8 +47,11 @@ fn better(facets: &[Facet], a: Pt, b: Pt, best: Option<Key>) -> Option<Key>
     if is_same(a, b) {
         return best;
     }
+    let Some(cost) = cost_within(facets, minus(b, a), cost_limit(best)) else {
+        return best;
+    };
     let key = Key {
-        cost: cost_of(facets, minus(b, a)),
+        cost,
         distance: cheb(a, b),
         from: a,
         to: b,

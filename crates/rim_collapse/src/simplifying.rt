@@ -1,5 +1,5 @@
-ghost use Rattle.std.specs.Prelude.{◌≡◌, ◌≤◌, ◌<◌, ◌*◌, IfOk, OnOk, IsTrue, ℕ, true, false, None, List, length, map, All};
-ghost use Rattle.std.specs.Prelude.{AllPairs, Contains, slice_index_or};
+ghost use Rattle.std.specs.Prelude.{◌≡◌, ◌≤◌, ◌<◌, ◌*◌, IfOk, OnOk, IsTrue, ℕ, true, false};
+ghost use Rattle.std.specs.Prelude.{None, List, length, map, All, AllPairs, Contains, slice_index_or};
 ghost use Rattle.std.specs.declared.cmp.Ordering.TheVariants.{Less};
 ghost use Rattle.geom_core.specs.declared.limits.TheConstants.{TRIANGLES_PER_GROUP};
 ghost use Rattle.geom_core.specs.declared.points.Pt.{Pt};
@@ -20,7 +20,7 @@ ghost use Rattle.rim_collapse.specs.Sound.{IsSound};
 ghost use Rattle.rim_collapse.specs.States.{after, tagged_of};
 
 use crate::bests::{least_best, refresh};
-use crate::faces::{Face, faces_of, kept_of, list_after};
+use crate::faces::{Face, collapse_faces, faces_of, kept_of};
 use crate::facets::Facet;
 use crate::keys::Key;
 use crate::marks::{list_near, mark_block, mark_round};
@@ -29,7 +29,6 @@ use crate::states::{Kept, moved, tagged};
 use geom_core::{Memory, Pt, Tagged, TaggedTris, Tri};
 use std::alloc::Global;
 use std::collections::BTreeSet;
-use std::mem;
 
 /// Points whose collapses are asked for at once at the start: their triangles are listed by one pass over all.
 const BLOCK: usize = 16;
@@ -137,7 +136,6 @@ fn next_collapse(faces: &[Face], bests: &[Option<Key>], count: usize) -> Option<
 /// other point stays, as only the triangles round a point decide it.
 fn collapse(
     faces: &mut Vec<Face>,
-    next: &mut Vec<Face>,
     bests: &mut Vec<Option<Key>>,
     scratch: &mut Scratch,
     points: &[Pt],
@@ -167,8 +165,7 @@ fn collapse(
     let from = number_of(points, a);
     let to = number_of(points, b);
     mark_round(&mut scratch.marks, faces, from);
-    list_after(next, faces, from, to)?;
-    mem::swap(faces, next);
+    collapse_faces(faces, from, to);
     ask_marked(bests, scratch, points, faces, locked)?;
     Ok(())
 }
@@ -181,7 +178,6 @@ fn end_state(alloc: Global, tris: &[Tagged], locked: &BTreeSet<Pt>) -> Result<Ve
 {
     let points = points_of(alloc, tris)?;
     let mut faces = faces_of(alloc, &points, tris)?;
-    let mut next = Vec::new(alloc);
     let mut scratch = Scratch {
         marks: vec![in alloc; false; points.len()]?,
         near: Vec::new(alloc),
@@ -191,7 +187,6 @@ fn end_state(alloc: Global, tris: &[Tagged], locked: &BTreeSet<Pt>) -> Result<Ve
     'collapses: while let Some(key) = next_collapse(&faces, &bests, tris.len()) {
         collapse(
             &mut faces,
-            &mut next,
             &mut bests,
             &mut scratch,
             &points,
@@ -207,8 +202,8 @@ fn end_state(alloc: Global, tris: &[Tagged], locked: &BTreeSet<Pt>) -> Result<Ve
 /// Simplifies a list of triangles: does the least legal collapse of a point that isn't locked, again and again, until
 /// at most half of the triangles are left or no collapse is legal.
 ///
-/// The collapse with the least cost is done first; at equal cost the shortest, then the one of the least point, then the
-/// one with the least target. The triangles that are left keep their order, their sources and the places of their
+/// The collapse with the least cost is done first; at equal cost the shortest, then the one of the least point, then
+/// the one with the least target. The triangles that are left keep their order, their sources and the places of their
 /// corners. How well the result looks is not promised. On `Memory` the list is gone.
 pub fn simplify(
     alloc: Global,

@@ -8,6 +8,7 @@ use Rattle.rim_collapse.specs.States.{after}
 use Rattle.rim_collapse.specs.Internal.Bests.{AreRight, IsBestAt}
 use Rattle.rim_collapse.specs.Internal.Faces.{IsNumbered, faces_after, point_at, state_of, tris_at}
 use Rattle.rim_collapse.specs.Internal.Marks.{AreMarkedRound}
+use Rattle.rim_collapse.proofs.CollapsedFaces.{distinct-faces}
 use Rattle.rim_collapse.proofs.FaceLaws.{corners-numbered, face_to-numbered, faces_after-all, state_of-after}
 use Rattle.rim_collapse.proofs.Following.{target-corner}
 use Rattle.rim_collapse.proofs.NearLaws.{after-few, after-grid, right-after}
@@ -33,17 +34,15 @@ edge_at : (points : List Pt) (faces : List Face) (p q a b : Pt) → p ≡ a → 
     has_edge (tris_at points faces) a b ≡ true → has_edge (tris_at points faces) p q ≡ true
 edge_at points faces p q a b at_a at_b edge = rw (at_a, at_b) edge
 
-listed : (c : goal.After-deref-3) → c.deref-3.result.now ≡
-    faces_after c.number_of-from.result c.number_of-to.result c.args.faces.now.items
-listed c =
-    c.deref-3.ensures.value ∙ ap (λ v. v.items) c.swap.ensures.x_after ∙ c.in_ok-list_after.ensures ∙
-    ap (faces_after c.number_of-from.result c.number_of-to.result) c.deref-2.ensures.value
+pub collapse_faces-requires : goal.collapse_faces-requires
+collapse_faces-requires c = record {
+  distinct = distinct-faces c.args.points.now c.args.faces.now.items c.requires.ascending c.requires.numbers
+      c.requires.triangles;
+}
 
-swapped : (c : goal.In_ok-ask_marked) → c.swap.new.x.items ≡
+listed : (c : goal.After-deref-2) → c.deref-2.result.now ≡
     faces_after c.number_of-from.result c.number_of-to.result c.args.faces.now.items
-swapped c =
-    ap (λ v. v.items) c.swap.ensures.x_after ∙ c.in_ok-list_after.ensures ∙
-    ap (faces_after c.number_of-from.result c.number_of-to.result) c.deref-2.ensures.value
+listed c = c.deref-2.ensures.value ∙ c.collapse_faces.ensures
 
 pub ask_marked-requires-clause-triangle_limit : goal.ask_marked-requires-clause-triangle_limit
 ask_marked-requires-clause-triangle_limit c =
@@ -67,13 +66,13 @@ ask_marked-requires-clause-triangles c =
 
 pub returns-clause-numbers : goal.returns-clause-numbers
 returns-clause-numbers c =
-    subst (All (IsNumbered (length c.args.points.now))) (sym (swapped c))
+    subst (All (IsNumbered (length c.args.points.now))) ((sym c.collapse_faces.ensures))
     (numbered (length c.args.points.now) c.number_of-from.result
     c.number_of-to.result c.args.faces.now.items c.number_of-to.ensures.number c.requires.numbers)
 
 pub returns-clause-was : goal.returns-clause-was
 returns-clause-was c = λ count all.
-    subst (All (λ (f : Face). f.was < count)) (sym (swapped c))
+    subst (All (λ (f : Face). f.was < count)) ((sym c.collapse_faces.ensures))
     (faces_after-all (λ (f : Face). f.was < count) c.number_of-from.result c.number_of-to.result
     c.args.faces.now.items (λ f h. h) all)
 
@@ -83,7 +82,7 @@ returns-clause-state c = λ tris.
     let faces = c.args.faces.now.items in
     let from = c.number_of-from.result in
     let to = c.number_of-to.result in
-    ap (state_of tris points) (swapped c) ∙
+    ap (state_of tris points) c.collapse_faces.ensures ∙
     state_of-after tris points from to faces c.requires.ascending c.number_of-from.ensures.number
     c.number_of-to.ensures.number c.requires.numbers ∙
     ap (λ p. after p (point_at points to) (state_of tris points faces)) c.number_of-from.ensures.point ∙
@@ -98,12 +97,12 @@ returns-clause-right c = λ right.
     let to = c.number_of-to.result in
     let marks = c.mark_round.new.marks.items in
     let next = c.ask_marked.new.bests.items in
-    subst (λ l. AreRight (tris_at points l) keys points next) (sym (swapped c))
+    subst (λ l. AreRight (tris_at points l) keys points next) ((sym c.collapse_faces.ensures))
     (right-after marks points keys from to faces c.args.bests.now.items next c.requires.ascending
     c.number_of-from.ensures.number c.number_of-to.ensures.number c.requires.numbers c.requires.triangles
     (subst (AreMarkedRound from marks) c.deref.ensures.value c.mark_round.ensures.round)
     (edge_at c.args.points.now c.args.faces.now.items _ _ c.args.a c.args.b c.number_of-from.ensures.point
     c.number_of-to.ensures.point c.requires.edge)
     (λ k in_k marked. subst (λ l. IsBestAt (tris_at points l) keys (point_at points k) (slice_index_or next k None))
-    (c.deref-3.ensures.value ∙ swapped c) (c.in_ok-ask_marked.ensures.asked k in_k marked))
+    (c.deref-2.ensures.value ∙ c.collapse_faces.ensures) (c.in_ok-ask_marked.ensures.asked k in_k marked))
     c.in_ok-ask_marked.ensures.others right)
