@@ -20,6 +20,21 @@ pub enum Work {
     JoinedRims,
     /// The triangles cut into clusters.
     Clusters,
+    /// These clusters cut into groups.
+    Groups,
+    /// Each of these groups simplified once, with the points of its rim locked.
+    Simplify,
+    /// All levels of detail.
+    Levels,
+}
+
+/// A piece of work, and how the mesh is read.
+#[derive(Clone, Copy, Debug, PartialEq, Eq)]
+pub struct Order {
+    /// The work.
+    pub work: Work,
+    /// Grid steps per unit of the text.
+    pub scale: u32,
 }
 
 impl Work {
@@ -32,6 +47,9 @@ impl Work {
             "rims" => Some(Work::Rims),
             "joined-rims" => Some(Work::JoinedRims),
             "clusters" => Some(Work::Clusters),
+            "groups" => Some(Work::Groups),
+            "simplify" => Some(Work::Simplify),
+            "levels" => Some(Work::Levels),
             _ => None,
         }
     }

@@ -1,6 +1,5 @@
-use Rattle.std.proofs.Common.{◌≡◌, List, [], ◌++◌, take, drop, map, refl, sym, ap, ◌∙◌}
+use Rattle.std.proofs.Common.{◌≡◌, [], ◌++◌, drop, map, refl, sym, ap, ◌∙◌}
 use Rattle.std.proofs.lemmas.List.{take-append-drop}
-use Rattle.half_mesh.specs.Rim.{EdgeSums, HaveSmallSums}
 use Rattle.geode_bench.proofs.JoinLaws.{are_none, piece_joined, all_referred, small_joined}
 use Rattle.geode_bench.proofs.rims.rim_of_pieces.Goals as goal
 
