@@ -1,0 +1,2 @@
+pub mod FirstBreaks
+pub mod Internal
