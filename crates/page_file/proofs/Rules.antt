@@ -14,11 +14,11 @@ use Rattle.page_file.specs.Judging.{places, rule_fault, rules_fault}
 
 -- ---- searches
 
-find-none : (test : ℕ → Bool) → ((i : ℕ) → test i ≡ false) → (a n : ℕ) → find test (range_with_len a n) ≡ None
+pub find-none : (test : ℕ → Bool) → ((i : ℕ) → test i ≡ false) → (a n : ℕ) → find test (range_with_len a n) ≡ None
 find-none test none a zero = refl
 find-none test none a (suc n) = rw (none a) (find-none test none (a + 1) n)
 
-find-first : (test : ℕ → Bool) (a n i : ℕ) → a ≤ i → i < a + n → test i ≡ true → ((j : ℕ) → j < i → test j ≡ false)
+pub find-first : (test : ℕ → Bool) (a n i : ℕ) → a ≤ i → i < a + n → test i ≡ true → ((j : ℕ) → j < i → test j ≡ false)
     → find test (range_with_len a n) ≡ Some i
 find-first test a zero i from below is before = absurd (omega arith)
 find-first test a (suc n) i from below is before = elim (eq-or-lt_of_le from) [

@@ -1,7 +1,7 @@
 -- The steps of an opening: what the reads showed decides each step's answer.
 use Rattle.std.proofs.Common.{◌≡◌, ℕ, zero, suc, ◌+◌, ◌*◌, ◌<◌, ◌≤◌, List, [], ◌∷◌, ◌++◌, length, drop, Option, None}
 use Rattle.std.proofs.Common.{Some, IfSome, Result, Ok, Err, IfErr, refl, sym, ap, ◌∙◌, subst, arith, inl, inr}
-use Rattle.std.proofs.Common.{length-append, slice_index_or}
+use Rattle.std.proofs.Common.{length-append, slice_index_or, flat_map, append-nil, append_assoc}
 use Rattle.std.proofs.lemmas.Bool.{cases_lt}
 use Rattle.std.proofs.Math.Nat.{eq-or-lt_of_le}
 use Rattle.std.proofs.lemmas.List.{get_or_append_left}
@@ -12,7 +12,7 @@ use Rattle.dag_core.specs.Ranges.{counts_of}
 use Rattle.page_codec.specs.declared.headers.Header.{Header}
 use Rattle.page_codec.specs.declared.directories.Directory.{Directory}
 use Rattle.page_codec.specs.declared.pages.Page.{Page}
-use Rattle.page_codec.specs.Spelling.{directory_length, page_at}
+use Rattle.page_codec.specs.Spelling.{directory_length, page_at, page_bytes}
 use Rattle.span_io.specs.Faults.{Rose}
 use Rattle.page_file.specs.declared.open_faults.OpenFault.{OpenFault}
 use Rattle.page_file.specs.declared.open_faults.OpenFault.TheVariants.{Magic, Version, Truncated, DirectoryDigest}
@@ -96,7 +96,8 @@ header-unread known faults new_faults fault refused = step-read known 0 0 64 dir
     (λ count ends. record {
       rest = ends.rest;
       told = ends.bytes;
-      answer = λ bytes reached is. header-end ends.rest bytes count is ends.fewer ends.count_is;
+      answer =
+          λ bytes reached is. header-end ends.rest bytes count is ends.fewer ends.count_is;
     }) refused
 
 pub header-refused : (known : Option (List ℕ)) (head : List ℕ) (faults new_faults : ℕ) (fault : OpenFault) →
@@ -228,14 +229,25 @@ pages-none known directory =
       seen = [];
       size = omega arith;
       told = told-none known (page_at (counts_of directory.heads) 0);
-      answer = λ bytes stands. refl;
+      answer =
+          λ bytes stands. refl;
+      spelt = refl;
     }
+
+spelt-more : (pages : List Page) (page : Page) (seen text : List ℕ) → seen ≡ flat_map page_bytes pages →
+    page_bytes page ≡ text → seen ++ text ≡ flat_map page_bytes (pages ++ page ∷ [])
+spelt-more [] page seen text is spells =
+    ap (λ (seen : List ℕ). seen ++ text) is ∙ sym spells ∙ sym (append-nil (page_bytes page))
+spelt-more (first ∷ pages) page seen text is spells =
+    ap (λ (seen : List ℕ). seen ++ text) is ∙ append_assoc (page_bytes first) (flat_map page_bytes pages) text
+    ∙ ap (λ (rest : List ℕ). page_bytes first ++ rest)
+    (spelt-more pages page (flat_map page_bytes pages) text refl spells)
 
 pub pages-more : (known : Option (List ℕ)) (directory : Directory) (p : ℕ) (pages : List Page) (page : Page)
     (text : List ℕ) → DecidesPages known directory p pages → length text ≡ PAGE_BYTES
     → IfSome known (StandsAt (page_at (counts_of directory.heads) p) text) → page_judged directory p text ≡ Ok page →
-    DecidesPages known directory (suc p) (pages ++ page ∷ [])
-pages-more known directory p pages page text decided size told judged =
+    page_bytes page ≡ text → DecidesPages known directory (suc p) (pages ++ page ∷ [])
+pages-more known directory p pages page text decided size told judged spells =
     let counts = counts_of directory.heads in
     let at = page_at counts 0 in
     let place : page_at counts p ≡ at + length decided.seen = omega (arith, decided.size) in record {
@@ -251,7 +263,16 @@ pages-more known directory p pages page text decided size told judged =
           (decided.answer bytes (stands-first at decided.seen text bytes stands))
           (page-seen directory p text bytes size (subst (λ (n : ℕ). StandsAt n text bytes) (sym place)
           (stands-second at decided.seen text bytes stands)) ∙ judged);
+      spelt = spelt-more pages page decided.seen text decided.spelt spells;
     }
+
+-- the told bytes are those that the pages spell
+pub pages-spelt : (known : Option (List ℕ)) (directory : Directory) (n : ℕ) (pages : List Page) →
+    DecidesPages known directory n pages
+    → IfSome known (StandsAt (page_at (counts_of directory.heads) 0) (flat_map page_bytes pages))
+pages-spelt known directory n pages decided =
+    subst (λ (seen : List ℕ). IfSome known (StandsAt (page_at (counts_of directory.heads) 0) seen)) decided.spelt
+    decided.told
 
 pub pages-refused : (known : Option (List ℕ)) (directory : Directory) (p n : ℕ) (pages : List Page) (text : List ℕ)
     (faults new_faults : ℕ) (fault : OpenFault) → DecidesPages known directory p pages → p < n

@@ -79,7 +79,7 @@ counts-in dag = refl
 
 -- ---- the directory
 
-heads-in : (dag : Dag) → (directory_in dag).heads ≡ dag.heads
+pub heads-in : (dag : Dag) → (directory_in dag).heads ≡ dag.heads
 unfolding directory_in
 heads-in dag = refl
 
@@ -262,13 +262,24 @@ roots-most : (counts : Counts) → AreCountsInRange counts → counts.roots ≤ 
 roots-most counts range =
     let h = and-right (leb 1 counts.roots) (leb counts.roots counts.pages) range.roots in grind (arith, nat_tests)
 
+-- as many pages as there are, or fewer
+pub opening-written-by : (which : Counts → ℕ) (dag : Dag) (more : List ℕ) → IsLaidOut dag →
+    which (counts_of dag.heads) ≤ dag.heads.pages → opening which (file_bytes dag ++ more) ≡ Ok (record {
+      directory = directory_in dag;
+      roots = map (page_in dag) (range_with_len 0 (which (counts_of dag.heads)));
+    })
+unfolding opening
+opening-written-by which dag more laid within =
+    let n = which (counts_of dag.heads) in
+    let pages : pages_opened (directory_in dag) (which (counts_of (directory_in dag).heads))
+    (file_bytes dag ++ more) ≡ Ok (map (page_in dag) (range_with_len 0 n)) =
+    ap (λ (heads : Heads). pages_opened (directory_in dag) (which (counts_of heads)) (file_bytes dag ++ more))
+    (heads-in dag)
+    ∙ pages-open dag more laid n within in
+    rw (directory-opens dag more laid, pages) refl
+
 pub opening-written : (dag : Dag) (more : List ℕ) → IsLaidOut dag
     → opening root_pages (file_bytes dag ++ more) ≡ Ok
     (record { directory = directory_in dag; roots = map (page_in dag) (range_with_len 0 dag.heads.roots) })
-unfolding opening
 opening-written dag more laid =
-    let roots : pages_opened (directory_in dag) (directory_in dag).heads.roots (file_bytes dag ++ more) ≡ Ok
-    (map (page_in dag) (range_with_len 0 dag.heads.roots)) =
-    ap (λ (heads : Heads). pages_opened (directory_in dag) heads.roots (file_bytes dag ++ more)) (heads-in dag)
-    ∙ pages-open dag more laid dag.heads.roots (roots-most (counts_of dag.heads) laid.range.counts) in
-    rw (directory-opens dag more laid, roots) refl
+    opening-written-by root_pages dag more laid (roots-most (counts_of dag.heads) laid.range.counts)

@@ -8,11 +8,12 @@ use Rattle.page_codec.specs.declared.pages.Page.{Page}
 use Rattle.page_codec.specs.Breaks.{first_page_break}
 use Rattle.page_codec.specs.Fits.{FitsDirectory, FitsPage}
 use Rattle.page_codec.specs.Reading.{page_of}
+use Rattle.page_codec.specs.Spelling.{page_bytes}
 use Rattle.page_file.specs.declared.opened.Opened.{Opened}
 use Rattle.page_file.specs.Judging.{stated_digest}
 
--- the page is what some text of a page's length reads as, which breaks no rule and has the digest that the directory
--- states for page p
+-- the page is what some text of a page's length reads as, which breaks no rule, has the digest that the directory
+-- states for page p, and is what the page spells
 pub record IsPageOf (directory : Directory) (p : ℕ) (page : Page) : Type 0 where
   pub text : List ℕ
   pub size : length text ≡ PAGE_BYTES
@@ -20,6 +21,7 @@ pub record IsPageOf (directory : Directory) (p : ℕ) (page : Page) : Type 0 whe
   pub no_break : first_page_break directory.heads p text ≡ None
   pub reads : page_of directory.heads p text ≡ page
   pub fits : FitsPage directory.heads page
+  pub spelt : page_bytes page ≡ text
 
 -- these are the first n pages, by their numbers
 pub record ArePagesOf (directory : Directory) (n : ℕ) (pages : List Page) : Type 0 where

@@ -4,4 +4,8 @@ pub mod Judging
 pub mod Opening
 pub mod PagesRule
 pub mod Refusals
+pub mod SoundFiles
+pub mod VerifyAnswers
+pub mod VerifyFaults
+pub mod Verifying
 pub mod WrittenFiles

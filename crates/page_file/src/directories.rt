@@ -2,7 +2,7 @@ ghost use Rattle.std.specs.Prelude.{◌≡◌, IfErr, IfOk, None, Ok, OnOk, leng
 ghost use Rattle.dag_core.specs.Ranges.{AreCountsInRange, IsInRange, counts_of};
 ghost use Rattle.dag_core.specs.Rules.{Checked};
 ghost use Rattle.page_codec.specs.Fits.{FitsDirectory};
-ghost use Rattle.page_codec.specs.Spelling.{directory_length};
+ghost use Rattle.page_codec.specs.Spelling.{directory_bytes, directory_digest, directory_length};
 ghost use Rattle.page_file.specs.Internal.Seen.{JudgedTo, RulesRefused};
 ghost use Rattle.page_file.specs.Judging.{directory_judged, rules_fault};
 ghost use Rattle.page_file.specs.Refusals.{DigestsDiffer};
@@ -37,6 +37,9 @@ pub(crate) fn judge_directory(
     requires counts { AreCountsInRange header.now.counts }
     requires length { length text.now ≡ directory_length header.now.counts }
     ensures directory { IfOk result (λ found. directory_judged header.now text.now ≡ Ok found) }
+    ensures spelling { IfOk result (λ found. directory_bytes found ≡ text.now) }
+    ensures digest { OnOk result (header.now.digest.bytes
+        ≡ directory_digest header.now.version header.now.counts text.now) }
     ensures refused { IfErr result (JudgedTo (directory_judged header.now text.now)) }
     ensures digests { IfErr result DigestsDiffer }
     ensures counts { IfOk result (λ found. counts_of found.heads ≡ header.now.counts) }

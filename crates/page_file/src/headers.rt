@@ -1,5 +1,7 @@
 ghost use Rattle.std.specs.Prelude.{◌≡◌, IfErr, IfNone, IfOk, Ok};
 ghost use Rattle.dag_core.specs.Ranges.{AreCountsInRange, is_count_to};
+ghost use Rattle.page_codec.specs.declared.sizes.TheConstants.{VERSION};
+ghost use Rattle.page_codec.specs.Spelling.{header_bytes};
 ghost use Rattle.page_file.specs.Internal.Seen.{JudgedTo};
 ghost use Rattle.page_file.specs.Judging.{first_bad_count, header_judged};
 ghost use Rattle.page_file.specs.Refusals.{DigestsDiffer};
@@ -45,6 +47,8 @@ fn first_bad_count(counts: &Counts) -> Option<u32>
 #[tactic(auto, unfolding(crate::specs::Judging::header_fault))]
 pub(crate) fn judge_header(text: &[u8; HEADER_BYTES as usize]) -> Result<Header, OpenFault>
     ensures header { IfOk result (λ header. header_judged text.now ≡ Ok header) }
+    ensures version { IfOk result (λ header. header.version ≡ VERSION) }
+    ensures spelling { IfOk result (λ header. header_bytes header ≡ text.now) }
     ensures refused { IfErr result (JudgedTo (header_judged text.now)) }
     ensures digests { IfErr result DigestsDiffer }
     ensures range { IfOk result (λ header. AreCountsInRange header.counts) }

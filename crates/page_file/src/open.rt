@@ -1,4 +1,4 @@
-ghost use Rattle.std.specs.Prelude.{◌≡◌, ◌≤◌, ◌<◌, ◌^◌, ℕ, List, IfErr, IfOk, Ok, OnOk, Some};
+ghost use Rattle.std.specs.Prelude.{◌≡◌, ◌≤◌, ◌<◌, ◌^◌, ℕ, List, IfErr, IfOk, IfSome, Ok, OnOk, Some};
 ghost use Rattle.dag_core.specs.Rules.{Checked};
 ghost use Rattle.dag_core.specs.Ranges.{AreCountsInRange, counts_of};
 ghost use Rattle.page_codec.specs.Fits.{FitsDirectory};
@@ -6,7 +6,8 @@ ghost use Rattle.page_codec.specs.Spelling.{directory_length, page_at};
 ghost use Rattle.span_io.specs.Faults.{Rose};
 ghost use Rattle.page_file.specs.declared.open_faults.OpenFault.TheVariants.{Memory};
 ghost use Rattle.page_file.specs.declared.opened.Opened.{Opened};
-ghost use Rattle.page_file.specs.Internal.Seen.{Decides, StepRefused};
+ghost use Rattle.page_file.specs.Internal.Fronts.{front_bytes};
+ghost use Rattle.page_file.specs.Internal.Seen.{Decides, StandsAt, StepRefused};
 ghost use Rattle.page_file.specs.IsOpened.{IsOpened};
 ghost use Rattle.page_file.specs.Opening.{directory_opened, opening, root_pages};
 ghost use Rattle.page_file.specs.Refusals.{DigestsDiffer, Opens, Refuses};
@@ -33,9 +34,14 @@ fn directory_length(counts: &Counts) -> usize
 }
 
 /// Reads and judges the header, then the directory.
-fn open_directory<P: PageSource>(alloc: Global, src: &mut P) -> Result<Directory, OpenFault>
+pub(crate) fn open_directory<P: PageSource>(
+    alloc: Global,
+    src: &mut P,
+) -> Result<Directory, OpenFault>
     ensures directory { IfOk result (λ found. Decides (P.holds src.old) directory_opened found
         (page_at (counts_of found.heads) 0)) }
+    ensures spelling { IfOk result (λ found. IfSome (P.holds src.old)
+        (StandsAt 0 (front_bytes found))) }
     ensures no_fault { OnOk result (P.faults src.new ≡ P.faults src.old) }
     ensures fits { IfOk result FitsDirectory }
     ensures rules { IfOk result (λ found. Checked found.heads) }

@@ -1,10 +1,10 @@
-ghost use Rattle.std.specs.Prelude.{◌≡◌, ◌≤◌, ◌<◌, [], ◌∷◌, ◌++◌, IfErr, IfOk, IfSome, Ok, OnOk, length};
+ghost use Rattle.std.specs.Prelude.{◌≡◌, ◌≤◌, ◌<◌, [], ◌∷◌, ◌++◌, IfErr, IfOk, IfSome, Ok, OnOk, flat_map, length};
 ghost use Rattle.geom_core.specs.declared.limits.TheConstants.{PAGE_BYTES};
 ghost use Rattle.dag_core.specs.Ranges.{counts_of};
 ghost use Rattle.dag_core.specs.Rules.{Checked};
 ghost use Rattle.page_codec.specs.Fits.{FitsDirectory};
 ghost use Rattle.page_codec.specs.PageLinks.{IsIndexOf};
-ghost use Rattle.page_codec.specs.Spelling.{page_at};
+ghost use Rattle.page_codec.specs.Spelling.{page_at, page_bytes};
 ghost use Rattle.page_file.specs.Internal.Seen.{Answers, JudgedTo, PageRefused, StandsAt, StepRefused};
 ghost use Rattle.page_file.specs.IsOpened.{ArePagesOf, IsPageOf};
 ghost use Rattle.page_file.specs.Judging.{page_judged};
@@ -34,6 +34,7 @@ fn judge_page(
     requires page_range { page < directory.now.heads.pages }
     requires index { IsIndexOf directory.now.heads index.now }
     ensures page { IfOk result (λ found. page_judged directory.now page text.now ≡ Ok found) }
+    ensures spelling { IfOk result (λ found. page_bytes found ≡ text.now) }
     ensures refused { IfErr result (JudgedTo (page_judged directory.now page text.now)) }
     ensures digests { IfErr result DigestsDiffer }
     ensures checked { IfOk result (IsPageOf directory.now page) }
@@ -75,6 +76,7 @@ fn open_page<P: PageSource>(
     ensures read { OnOk result (IfSome (P.holds src.old)
         (StandsAt (page_at (counts_of directory.now.heads) page) buffer.new)) }
     ensures page { IfOk result (λ found. page_judged directory.now page buffer.new ≡ Ok found) }
+    ensures spelling { IfOk result (λ found. page_bytes found ≡ buffer.new) }
     ensures no_fault { OnOk result (P.faults src.new ≡ P.faults src.old) }
     ensures checked { IfOk result (IsPageOf directory.now page) }
     ensures refused { IfErr result (PageRefused (P.holds src.old)
@@ -110,6 +112,8 @@ pub(crate) fn open_first_pages<P: PageSource>(
     ensures pages { IfOk result (λ pages. Answers (P.holds src.old)
         (page_at (counts_of directory.now.heads) 0) (pages_opened directory.now count)
         (Ok pages.items)) }
+    ensures spelling { IfOk result (λ pages. IfSome (P.holds src.old)
+        (StandsAt (page_at (counts_of directory.now.heads) 0) (flat_map page_bytes pages.items))) }
     ensures no_fault { OnOk result (P.faults src.new ≡ P.faults src.old) }
     ensures checked { IfOk result (λ pages. ArePagesOf directory.now count pages.items) }
     ensures refused { IfErr result (StepRefused (P.holds src.old)

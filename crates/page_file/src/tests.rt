@@ -15,7 +15,7 @@ pub(crate) const PAGE_0: usize = 324;
 
 pub(crate) const PAGE_1: usize = 65_860;
 
-const COUNTS: Counts = Counts {
+pub(crate) const COUNTS: Counts = Counts {
     groups: 3,
     clusters: 4,
     pages: 3,
@@ -48,7 +48,7 @@ pub(crate) enum Want {
 }
 
 // The groups and the clusters of the two squares, as the directory begins.
-fn records(alloc: Global) -> Result<Vec<u8>, Fail> {
+pub(crate) fn records(alloc: Global) -> Result<Vec<u8>, Fail> {
     let directory = Directory {
         heads: two_squares_heads(alloc)?,
         digests: Digests::of(Vec::new(alloc)),
@@ -57,7 +57,7 @@ fn records(alloc: Global) -> Result<Vec<u8>, Fail> {
 }
 
 // The pages of the two squares.
-fn pages(alloc: Global) -> Result<Vec<u8>, Fail> {
+pub(crate) fn pages(alloc: Global) -> Result<Vec<u8>, Fail> {
     let dag = two_squares(alloc)?;
     let mut pages = Vec::new(alloc);
     for page in 0..3 {
@@ -69,7 +69,7 @@ fn pages(alloc: Global) -> Result<Vec<u8>, Fail> {
 }
 
 // A file of these records and pages, with their digests.
-fn sealed(alloc: Global, records: &[u8], pages: &[u8]) -> Result<Vec<u8>, Fail> {
+pub(crate) fn sealed(alloc: Global, records: &[u8], pages: &[u8]) -> Result<Vec<u8>, Fail> {
     let mut directory = records.to_vec(alloc)?;
     for page in pages.chunks_exact(65_536) {
         directory.extend_from_slice(&digest_of(page).bytes)?;

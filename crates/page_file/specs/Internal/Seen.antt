@@ -1,12 +1,12 @@
 -- What reads showed of a file: bytes at a place, or that the file ends; and what it decides.
-use Rattle.std.specs.Prelude.{◌≡◌, ◌≤◌, ◌<◌, ◌+◌, ◌*◌, ℕ, List, length, take, drop, Option, Some, IfSome, Result, Ok}
-use Rattle.std.specs.Prelude.{Err}
+use Rattle.std.specs.Prelude.{◌≡◌, ◌≤◌, ◌<◌, ◌+◌, ◌*◌, ℕ, List, length, take, drop, flat_map, Option, Some, IfSome}
+use Rattle.std.specs.Prelude.{Result, Ok, Err}
 use Rattle.geom_core.specs.declared.limits.TheConstants.{PAGE_BYTES}
 use Rattle.dag_core.specs.declared.heads.Heads.{Heads}
 use Rattle.dag_core.specs.Ranges.{counts_of}
 use Rattle.page_codec.specs.declared.directories.Directory.{Directory}
 use Rattle.page_codec.specs.declared.pages.Page.{Page}
-use Rattle.page_codec.specs.Spelling.{page_at}
+use Rattle.page_codec.specs.Spelling.{page_at, page_bytes}
 use Rattle.span_io.specs.Faults.{Rose}
 use Rattle.page_file.specs.declared.open_faults.OpenFault.{OpenFault}
 use Rattle.page_file.specs.declared.open_faults.OpenFault.TheVariants.{Rule, Truncated, PageFault, Memory}
@@ -67,6 +67,7 @@ pub record DecidesPages (known : Option (List ℕ)) (directory : Directory) (n :
   pub told : IfSome known (StandsAt (page_at (counts_of directory.heads) 0) seen)
   pub answer : (bytes : List ℕ) → StandsAt (page_at (counts_of directory.heads) 0) seen bytes →
       pages_opened directory n bytes ≡ Ok pages
+  pub spelt : seen ≡ flat_map page_bytes pages
 
 -- the bytes from a place on, all of them, which decide a step's answer: those that are told, or some
 pub record Answers {X : Type 0} (known : Option (List ℕ)) (at : ℕ) (step : List ℕ → Result X OpenFault)

@@ -8,6 +8,7 @@ use Rattle.page_file.specs.Opening.{directory_opened}
 use Rattle.page_file.proofs.Steps.{header-unread, header-refused, directory-unread, directory-refused}
 use Rattle.page_file.proofs.Steps.{directory-decides}
 use Rattle.page_file.proofs.StepRefusals.{read-same}
+use Rattle.page_file.proofs.FrontTexts.{judged-told}
 use Rattle.page_file.proofs.Texts.{handed, if_ok, if_err, told-same}
 use Rattle.page_file.proofs.open.open_directory.Goals as goal
 
@@ -87,3 +88,16 @@ returns-clause-refused g c =
     (λ fault refused. directory-refused known header c.read_whole.new.into text before now fault c.read_whole.auto.into
     c.in_ok-read_whole.ensures.read c.in_ok-header.ensures.header sized told refused)
     c.judge_directory.ensures.refused
+
+pub returns-clause-spelling : goal.returns-clause-spelling
+returns-clause-spelling g c =
+    let known = g.P.PageSource.holds c.args.src.now in
+    let header = c.in_ok-header.header in
+    let text = c.deref.result.now in
+    let place : c.from.result ≡ 64 = omega (arith, c.from.ensures) in
+    let told : IfSome known (StandsAt 64 text) =
+    told-same known (g.P.PageSource.holds c.read_whole.new.src) 64 c.from.result text c.in_ok-text.text.items
+    c.in_ok-read_whole.ensures.unchanged place (sym c.deref.ensures.value) c.in_ok-text.ensures.read in
+    judged-told known c.judge_directory.result header c.read_whole.new.into text c.read_whole.auto.into
+    c.in_ok-read_whole.ensures.read told c.in_ok-header.ensures.spelling c.in_ok-header.ensures.version
+    c.judge_directory.ensures.counts c.judge_directory.ensures.spelling c.judge_directory.ensures.digest

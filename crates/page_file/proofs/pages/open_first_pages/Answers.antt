@@ -6,7 +6,7 @@ use Rattle.page_codec.specs.Spelling.{page_at}
 use Rattle.page_file.specs.Internal.Seen.{StandsAt, DecidesPages, PageRefused, StepRefused}
 use Rattle.page_file.specs.Judging.{page_judged}
 use Rattle.page_file.specs.Opening.{pages_opened}
-use Rattle.page_file.proofs.Steps.{pages-refused, pages-more, pages-decided, pages-checked}
+use Rattle.page_file.proofs.Steps.{pages-refused, pages-more, pages-decided, pages-spelt, pages-checked}
 use Rattle.page_file.specs.IsOpened.{ArePagesOf}
 use Rattle.page_file.proofs.Texts.{handed}
 use Rattle.page_file.proofs.pages.open_first_pages.Goals as goal
@@ -49,7 +49,8 @@ pages-preserved g c =
     subst (λ (known : Option (List ℕ)). IfSome known (StandsAt (page_at (counts_of directory.heads) p) text))
     c.pages.invariant.same c.in_ok-opened.ensures.read in
     let more : DecidesPages known directory (suc p) (before ++ page ∷ []) =
-    pages-more known directory p before page text c.pages.invariant.decided size told c.in_ok-opened.ensures.page in
+    pages-more known directory p before page text c.pages.invariant.decided size told c.in_ok-opened.ensures.page
+    c.in_ok-opened.ensures.spelling in
     record {
       decided = subst (λ (n : ℕ). DecidesPages known directory n c.push_page.new.pages.items) (sym (add-one p))
           (subst (λ (pages : List Page). DecidesPages known directory (suc p) pages)
@@ -68,3 +69,8 @@ returns-clause-pages g c =
     let all : c.pages.page ≡ c.args.count = omega (arith, c.pages-test.false, c.pages.auto.page-end) in
     pages-decided known c.args.directory.now c.args.count c.pages.pages.items
     (subst (λ (n : ℕ). DecidesPages known c.args.directory.now n c.pages.pages.items) all c.pages.invariant.decided)
+
+pub returns-clause-spelling : goal.returns-clause-spelling
+returns-clause-spelling g c =
+    pages-spelt (g.P.PageSource.holds c.args.src.now) c.args.directory.now c.pages.page c.pages.pages.items
+    c.pages.invariant.decided
