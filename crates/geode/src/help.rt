@@ -5,6 +5,7 @@ usage: geode draw WIDTH HEIGHT CAMERA < model.obj > picture.txt
        geode audit < journal.txt
        geode make SIZE NUMBER > box.obj
        geode build < model.obj > model.geo
+       geode verify model.geo
 WIDTH and HEIGHT are 1 to 512. CAMERA is fifteen whole numbers between commas: focal length 1 to 4096,
 near 16384 to 17179869184, tolerance 0 to 65535, then x,y,z of the eye, -16777216 to 16777216, and x,y,z of
 right, down and forward, -16384 to 16384. tools/look_at.py prints the CAMERA that sees a model.
@@ -35,6 +36,15 @@ const BAD_JOURNAL: &str =
 
 const ILLEGAL: &str = "Entries are counted from 0: the lines after the layout that are no comment.";
 
+const PAGES: &str = "The file is none that `geode build` wrote whole, or a byte of it was changed.";
+
+const PAGE_FAULT: &str =
+    "The file is not there, may not be read, is no plain file, or its disk fails.";
+
+const UNSOUND: &str = "\
+Rule 6 counts groups, rule 7 source triangles, rule 8 clusters, from 0. No such file can be drawn at every level of
+detail without cracks and within its stated errors.";
+
 /// Returns what people may want to know besides the line of a fault, or no text.
 pub(crate) fn help_for(fault: &Fault) -> &'static str {
     match fault {
@@ -44,7 +54,14 @@ pub(crate) fn help_for(fault: &Fault) -> &'static str {
         Fault::Empty => EMPTY,
         Fault::BadJournal { .. } => BAD_JOURNAL,
         Fault::Illegal { .. } => ILLEGAL,
-        Fault::ReadFault | Fault::TooMany | Fault::WriteFault | Fault::Memory => "",
+        Fault::Pages(_) => PAGES,
+        Fault::PageFault => PAGE_FAULT,
+        Fault::Unsound { .. } => UNSOUND,
+        Fault::NoSource { .. }
+        | Fault::ReadFault
+        | Fault::TooMany
+        | Fault::WriteFault
+        | Fault::Memory => "",
     }
 }
 

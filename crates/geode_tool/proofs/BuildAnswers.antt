@@ -126,7 +126,8 @@ file_refused written flushed count left new_left faults new_faults old new r wri
     prefix same le =
     subst (λ k. Holds Build (streams left faults (written old) (flushed old) (count old) old)
     (streams new_left new_faults (written k) (flushed k) (count k) k) r) (sym (same refl))
-    (promise-refused Build left new_left faults new_faults (written old) (flushed old) (count old) old r Memory becomes
+    (promise-refused Build left new_left faults new_faults (written old) (flushed old) (count old) old r Memory refl
+    becomes
     (dag_refused {T = Done} (Err Memory) left new_left faults new_faults (refl, refl)) le)
 file_refused written flushed count left new_left faults new_faults old new r writes.Write counts text becomes made rose
     prefix same le =

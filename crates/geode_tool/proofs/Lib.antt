@@ -7,7 +7,6 @@ pub mod DrawAnswers
 pub mod DrawExamples
 pub mod DrawWords
 pub mod DrawnItems
-pub mod EarlyMemory
 pub mod MakeAnswers
 pub mod MakeExamples
 pub mod MakeWords
@@ -15,4 +14,7 @@ pub mod NumberParts
 pub mod Numerals
 pub mod WordExamples
 pub mod Promise
+pub mod CallAnswers
+pub mod VerifyAnswers
+pub mod VerifyExamples
 pub mod SoundBuilds

@@ -9,6 +9,8 @@ pub mod Inputs
 pub mod Internal
 pub mod Make
 pub mod Outputs
+pub mod Places
 pub mod Statuses
 pub mod Verdicts
+pub mod Verify
 pub mod Words

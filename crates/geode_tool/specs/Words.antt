@@ -1,5 +1,5 @@
--- The words of the commands: `draw` with a width, a height and a camera, `audit` and `build` alone, and `make` with a
--- size and a number.
+-- The words of the commands: `draw` with a width, a height and a camera, `audit` and `build` alone, `verify` with a
+-- file, and `make` with a size and a number.
 use Rattle.std.specs.Prelude.{◌==◌, ◌&&◌, ◌^◌, ℕ, ℤ, pos, neg_ℤ, nat_lt, nat_le, Bool, false, List, [], ◌∷◌, length}
 use Rattle.std.specs.Prelude.{drop, slice_index, Option, Some, None, option_map, option_and_then, is_none, bytes_eq}
 use Rattle.std.specs.Prelude.{codes, if◌then◌else◌}
@@ -10,7 +10,7 @@ use Rattle.std.specs.Str.Parse.{digits_value}
 use Rattle.geom_core.specs.Camera.{View}
 use Rattle.geom_core.specs.Limits.{is_side}
 use Rattle.geode_tool.specs.declared.commands.Command.{Command}
-use Rattle.geode_tool.specs.declared.commands.Command.TheVariants.{Draw, Audit, Make, Build}
+use Rattle.geode_tool.specs.declared.commands.Command.TheVariants.{Draw, Audit, Make, Build, Verify}
 use Rattle.geode_tool.specs.declared.commands.BoxRequest.{BoxRequest}
 use Rattle.geode_tool.specs.declared.commands.DrawRequest.{DrawRequest}
 use Rattle.shape_gen.specs.declared.lattice.TheConstants.{MAX_BOX_SIZE}
@@ -81,6 +81,11 @@ abbrev pub is_build : List (List ℕ) → Bool
 is_build (name ∷ []) = bytes_eq name (codes "build")
 is_build _ = false
 
+-- the words are `verify` and one more, a file
+abbrev pub is_verify : List (List ℕ) → Bool
+is_verify (name ∷ file ∷ []) = bytes_eq name (codes "verify")
+is_verify _ = false
+
 -- a box can have this many cells along an edge
 abbrev pub is_box_size : ℕ → Bool
 is_box_size n = nat_le 1 n && nat_le n MAX_BOX_SIZE
@@ -118,4 +123,5 @@ unfoldable pub command_words : List (List ℕ) → Option Command
 command_words words =
     if is_audit words then Some Audit
     else (if is_build words then Some Build
-    else make_or_draw (make_words words) (draw_words words))
+    else (if is_verify words then Some Verify
+    else make_or_draw (make_words words) (draw_words words)))

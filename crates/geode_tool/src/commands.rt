@@ -12,6 +12,7 @@ ghost use Rattle.geode_tool.specs.Words.{is_numeral, numbers_of, fifteen};
 ghost use Rattle.geode_tool.specs.declared.commands.BoxRequest.{BoxRequest};
 ghost use Rattle.geode_tool.specs.declared.commands.DrawRequest.{DrawRequest};
 
+use crate::verify_words::is_verify;
 use geom_core::Size;
 use geom_core::limits::MAX_SIDE;
 use shape_gen::MAX_BOX_SIZE;
@@ -37,6 +38,8 @@ pub enum Command {
     Make(BoxRequest),
     /// `build`: writes the page file of a mesh's levels of detail.
     Build,
+    /// `verify`: checks whether a page file is that of a sound DAG.
+    Verify,
 }
 
 /// The arguments of `make`.
@@ -70,6 +73,9 @@ pub(crate) fn command_of(words: &[&str]) -> Option<Command>
     }
     if is_build(words) {
         return Some(Command::Build);
+    }
+    if is_verify(words) {
+        return Some(Command::Verify);
     }
     if let Some(request) = make_of(words) {
         return Some(Command::Make(request));
@@ -266,7 +272,7 @@ mod tests {
 
     #[test]
     fn words_are_taken(rt: HostRuntime) {
-        let cases: [(&str, &[&str], bool); 25] = [
+        let cases: [(&str, &[&str], bool); 28] = [
             ("a drawing", &["draw", "4", "4", CAMERA], true),
             ("zeros first", &["draw", "0004", "0000000512", CAMERA], true),
             ("an audit", &["audit"], true),
@@ -275,6 +281,9 @@ mod tests {
             ("a build", &["build"], true),
             ("a word after `build`", &["build", ""], false),
             ("the start of `build`", &["buil"], false),
+            ("a file", &["verify", ""], true),
+            ("no file", &["verify"], false),
+            ("two files", &["verify", "a", "b"], false),
             ("the words of both", &["audit", "4", "4", CAMERA], false),
             ("a box", &["make", "295", "4294967295"], true),
             ("zeros before a box", &["make", "0001", "00"], true),

@@ -1,11 +1,12 @@
 ghost use Rattle.std.specs.Prelude.{◌≡◌};
 ghost use Rattle.geode_tool.specs.Statuses.{status_of};
 
+use crate::open_fault_texts::OpenFaultText;
 use dag_core::Counts;
 use geom_core::Memory;
 use journal::JournalFault;
 use obj_source::{ObjFault, ObjWhy};
-use page_file::PageWrite;
+use page_file::{OpenFault, PageWrite, VerifyFault};
 use residency::ReplayFault;
 use span_io::TextFault;
 use thiserror::Error;
@@ -27,6 +28,11 @@ pub enum Done {
         /// The counts that the file's header states.
         Counts,
     ),
+    /// `verify` wrote that the page file is sound.
+    Verified(
+        /// The counts that the file's header states.
+        Counts,
+    ),
 }
 
 /// What is wrong with a command line.
@@ -39,15 +45,24 @@ pub enum UsageKind {
 
 /// Why a command was not done. Neither copied nor compared: variants to come hold lists.
 ///
-/// `Usage` comes before anything is read. `ReadFault`, `WriteFault` and `Memory` are failures of the outside.
-/// The others are facts of the text, by its lines and not in one order: in `draw` and `build` the first line with a fault
-/// decides, so that `TooMany` of line 5 comes before `BadObj` of line 6, and `TooLong` and `Empty` come if no line
-/// has a fault; in `audit` `TooLong` comes first, then `BadJournal`, then `Illegal`.
+/// `Usage`, then `NoSource`, come before anything is read. `ReadFault`, `WriteFault` and `Memory` are failures of the
+/// outside. The others are facts of the text, by its lines and not in one order: in `draw` and `build` the first line
+/// with a fault decides, so that `TooMany` of line 5 comes before `BadObj` of line 6, and `TooLong` and `Empty` come if
+/// no line has a fault; in `audit` `TooLong` comes first, then `BadJournal`, then `Illegal`. In `verify` the parts of
+/// the page file are judged in their order, so that `PageFault` or `Pages` comes first, then `Unsound`.
 #[derive(Debug, Drop, Error)]
 pub enum Fault {
     /// The words are no command; nothing was read or written.
     #[error("usage: {0}")]
     Usage(UsageKind),
+    /// Fewer page sources were handed in than the command needs; nothing was read or written.
+    #[error("{need} sources needed, {have} given")]
+    NoSource {
+        /// The number of sources that the command needs.
+        need: u32,
+        /// The number of sources that were handed in.
+        have: u32,
+    },
     /// The input failed before its end; nothing was written.
     #[error("input could not be read")]
     ReadFault,
@@ -81,6 +96,21 @@ pub enum Fault {
     Illegal {
         /// The index of the first such entry, from 0.
         entry: u64,
+    },
+    /// The bytes of the first page source are no page file of which every part is as its header and directory say;
+    /// nothing was written. It is neither `OpenFault::PageFault` nor `OpenFault::Memory`, which have variants here.
+    #[error("page file: {}", OpenFaultText(.0))]
+    Pages(OpenFault),
+    /// A read of the first page source failed; nothing was written.
+    #[error("page file could not be read")]
+    PageFault,
+    /// The page file opened, and its DAG is not sound: this is the first break of a rule; nothing was written.
+    #[error("rule {rule} broken at {index}")]
+    Unsound {
+        /// The rule's number: 6 edge sums, 7 sources, 8 corners.
+        rule: u8,
+        /// The least index at which it is broken, from 0: of a group, of a source triangle, of a cluster.
+        index: u32,
     },
     /// The output failed; a prefix of the result was written, possibly empty or complete.
     #[error("output could not be written")]
@@ -144,6 +174,40 @@ impl From<PageWrite> for Fault {
     }
 }
 
+impl From<OpenFault> for Fault {
+    ghost use Rattle.geode_tool.specs.Faults.{fault_of_open};
+
+    ghost from_gives = { λ part fault. fault ≡ fault_of_open part };
+
+    fn from(part: OpenFault) -> Fault {
+        match part {
+            OpenFault::PageFault => Fault::PageFault,
+            OpenFault::Memory => Fault::Memory,
+            OpenFault::Magic { .. }
+            | OpenFault::Version { .. }
+            | OpenFault::Truncated { .. }
+            | OpenFault::DirectoryDigest { .. }
+            | OpenFault::DirectoryBad { .. }
+            | OpenFault::Rule { .. }
+            | OpenFault::PageDigest { .. }
+            | OpenFault::PageBad { .. } => Fault::Pages(part),
+        }
+    }
+}
+
+impl From<VerifyFault> for Fault {
+    ghost use Rattle.geode_tool.specs.Faults.{fault_of_verify};
+
+    ghost from_gives = { λ part fault. fault ≡ fault_of_verify part };
+
+    fn from(part: VerifyFault) -> Fault {
+        match part {
+            VerifyFault::Open(fault) => Fault::from(fault),
+            VerifyFault::Broken { rule, index } => Fault::Unsound { rule, index },
+        }
+    }
+}
+
 impl From<JournalFault> for Fault {
     ghost use Rattle.geode_tool.specs.Faults.{fault_of_journal};
 
@@ -185,6 +249,10 @@ impl Fault {
             Fault::TooMany => 8,
             Fault::TooLong => 9,
             Fault::BadJournal { .. } => 11,
+            Fault::NoSource { .. } => 12,
+            Fault::Pages(_) => 13,
+            Fault::PageFault => 14,
+            Fault::Unsound { .. } => 16,
             Fault::Illegal { .. } => 17,
         }
     }

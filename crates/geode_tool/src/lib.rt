@@ -18,14 +18,22 @@ mod faults;
 mod make_command;
 #[cfg(test)]
 mod make_tests;
+mod named_files;
+mod open_fault_texts;
 mod program;
 #[cfg(test)]
 mod tests;
 mod tool;
+mod verify_command;
+#[cfg(test)]
+mod verify_tests;
+mod verify_words;
 mod write_output;
 
 pub use commands::{BoxRequest, Command, DrawRequest};
 pub use faults::{Done, Fault, UsageKind};
+pub use named_files::{Wanted, places};
 pub use obj_source::ObjWhy;
-pub use program::{call, exit_status};
+pub use page_file::OpenFault;
+pub use program::{call, exit_status, places_of};
 pub use tool::geode;

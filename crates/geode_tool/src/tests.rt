@@ -1,9 +1,10 @@
 ghost use Rattle.std.specs.Prelude.{◌≤◌};
 
-use crate::{Done, Fault, UsageKind, geode};
+use crate::{Done, Fault, OpenFault, UsageKind, geode};
 use dag_core::Counts;
 use geom_core::Memory;
 use obj_source::ObjWhy;
+use page_sources::MemoryPages;
 use span_io::{MemorySink, MemorySource};
 use std::alloc::Global;
 use std::process::Abort;
@@ -163,8 +164,8 @@ impl Outcome {
     }
 }
 
-/// Returns the counts of a file that was built, as a text.
-fn said_built(alloc: Global, counts: Counts) -> Result<String, Memory> {
+/// Returns what was done with a file and its counts, as a text.
+fn said_counts(alloc: Global, what: &str, counts: Counts) -> Result<String, Memory> {
     let Counts {
         groups,
         clusters,
@@ -172,16 +173,17 @@ fn said_built(alloc: Global, counts: Counts) -> Result<String, Memory> {
         roots,
         sources,
     } = counts;
-    Ok(format!(in alloc; "built {groups} {clusters} {pages} {roots} {sources}")?)
+    Ok(format!(in alloc; "{what} {groups} {clusters} {pages} {roots} {sources}")?)
 }
 
 /// Returns an answer as a text.
-fn said(alloc: Global, answer: &Result<Done, Fault>) -> Result<String, Memory> {
+pub(crate) fn said(alloc: Global, answer: &Result<Done, Fault>) -> Result<String, Memory> {
     Ok(match answer {
         Ok(Done::Drawn) => format!(in alloc; "drawn")?,
         Ok(Done::Audited { entries }) => format!(in alloc; "audited {entries}")?,
         Ok(Done::Made) => format!(in alloc; "made")?,
-        Ok(Done::Built(counts)) => said_built(alloc, *counts)?,
+        Ok(Done::Built(counts)) => said_counts(alloc, "built", *counts)?,
+        Ok(Done::Verified(counts)) => said_counts(alloc, "verified", *counts)?,
         Err(fault) => format!(in alloc; "{fault}")?,
     })
 }
@@ -199,7 +201,8 @@ pub(crate) fn run(
     let failing_writes = vec![in alloc; calls.failing_write]?;
     let mut input = MemorySource::of(text, calls.most, failing_reads);
     let mut out = MemorySink::of(alloc, ROOM, calls.most, failing_writes)?;
-    let answer = geode(alloc, words, &mut input, &mut out);
+    let mut sources: Vec<MemoryPages> = Vec::new(alloc);
+    let answer = geode(alloc, words, &mut input, &mut sources, &mut out);
     Ok(Outcome {
         said: said(alloc, &answer)?,
         written: out.into_bytes(),
@@ -462,12 +465,60 @@ fn shows_faults(rt: HostRuntime) -> Result<(), Fail> {
         (Fault::TooMany, 8, "more than 1048576 triangles"),
         (Fault::Empty, 7, "no triangle"),
         (Fault::BadJournal { line: 7 }, 11, "journal line 7"),
+        (
+            Fault::NoSource { need: 3, have: 2 },
+            12,
+            "3 sources needed, 2 given",
+        ),
+        (Fault::PageFault, 14, "page file could not be read"),
+        (
+            Fault::Unsound { rule: 7, index: 6 },
+            16,
+            "rule 7 broken at 6",
+        ),
         (Fault::Illegal { entry: 0 }, 17, "entry 0 not allowed"),
         (Fault::WriteFault, 5, "output could not be written"),
         (Fault::Memory, 2, "out of memory"),
     ];
     for (fault, status, want) in cases {
         assert_shown(&rt, rt.alloc(), fault, status, want)?;
+    }
+    Ok(())
+}
+
+#[test]
+fn shows_faults_of_page_files(rt: HostRuntime) -> Result<(), Fail> {
+    let cases = [
+        (OpenFault::Version { found: 3 }, "page file: version 3"),
+        (
+            OpenFault::Truncated { at: 100 },
+            "page file: truncated at 100",
+        ),
+        (
+            OpenFault::DirectoryBad {
+                rule: 4,
+                offset: 44,
+            },
+            "page file: directory rule 4 broken at 44",
+        ),
+        (
+            OpenFault::Rule {
+                number: 0,
+                index: 2,
+            },
+            "page file: rule 0 broken at 2",
+        ),
+        (
+            OpenFault::PageBad {
+                page: 2,
+                rule: 4,
+                offset: 65_535,
+            },
+            "page file: page 2 rule 4 broken at 65535",
+        ),
+    ];
+    for (why, want) in cases {
+        assert_shown(&rt, rt.alloc(), Fault::Pages(why), 13, want)?;
     }
     Ok(())
 }

@@ -1,4 +1,4 @@
-use Rattle.std.proofs.Common.{◌∙◌}
+use Rattle.std.proofs.Common.{refl, ◌∙◌}
 use Rattle.geode_tool.specs.declared.commands.Command.TheVariants.{Audit}
 use Rattle.geode_tool.specs.declared.faults.Done.TheVariants.{Audited}
 use Rattle.geode_tool.specs.declared.faults.Fault.TheVariants.{Memory}
@@ -9,14 +9,14 @@ use Rattle.geode_tool.proofs.audit_command.audit.Goals as goal
 pub returns-in_err-entries : goal.returns-in_err-entries
 returns-in_err-entries g c = record {
   promise =
-      promise-refused Audit _ _ _ _ _ _ _ _ _ c.in_err-entries.field-0.0 c.from_residual.ensures
+      promise-refused Audit _ _ _ _ _ _ _ _ _ c.in_err-entries.field-0.0 refl c.from_residual.ensures
       c.in_err-entries.ensures.refused c.legal_entries.ensures.fault_count;
 }
 
 pub returns-in_err-verdict : goal.returns-in_err-verdict
 returns-in_err-verdict g c = record {
   promise =
-      promise-refused Audit _ _ _ _ _ _ _ _ _ Memory c.from_residual-in_err-verdict.ensures
+      promise-refused Audit _ _ _ _ _ _ _ _ _ Memory refl c.from_residual-in_err-verdict.ensures
       (memory-stops _ _ _ _) c.legal_entries.ensures.fault_count;
 }
 

@@ -1,4 +1,4 @@
-use Rattle.std.proofs.Common.{sym, subst}
+use Rattle.std.proofs.Common.{refl, sym, subst}
 use Rattle.geode_tool.specs.declared.commands.Command.TheVariants.{Draw}
 use Rattle.geode_tool.specs.declared.faults.Done.TheVariants.{Drawn}
 use Rattle.geode_tool.specs.Draw.{IsPictureText}
@@ -9,7 +9,7 @@ use Rattle.geode_tool.proofs.draw_command.draw.Goals as goal
 pub returns-in_err-text : goal.returns-in_err-text
 returns-in_err-text g c = record {
   promise =
-      promise-refused (Draw c.args.request.now) _ _ _ _ _ _ _ _ _ c.in_err-text.field-0.0 c.from_residual.ensures
+      promise-refused (Draw c.args.request.now) _ _ _ _ _ _ _ _ _ c.in_err-text.field-0.0 refl c.from_residual.ensures
       c.in_err-text.ensures.refused c.drawn_text.ensures.fault_count;
 }
 
