@@ -1,3 +1,4 @@
+pub mod CancelLaws
 pub mod CornerLaws
 pub mod EdgeLaws
 pub mod Examples

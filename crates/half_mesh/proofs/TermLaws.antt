@@ -1,6 +1,6 @@
 -- Terms of edge sums: what lists of them add up to, and adding up a sorted list.
-use Rattle.std.proofs.Common.{◌≡◌, ◌≢◌, ℕ, zero, suc, ◌+◌, ◌-◌, ◌%◌, ◌^◌, ◌<◌, ◌≤◌, inl, inr, Bool, true, false, not}
-use Rattle.std.proofs.Common.{◌&&◌, ℤ, pos, negsuc, ◌+ℤ◌, ◌-ℤ◌, neg_ℤ, List, [], ◌∷◌, ◌++◌, length, take, get_or, map}
+use Rattle.std.proofs.Common.{◌≡◌, ◌≢◌, ℕ, zero, suc, ◌+◌, ◌-◌, ◌%◌, ◌^◌, ◌<◌, ◌≤◌, inl, inr, Bool, true, false}
+use Rattle.std.proofs.Common.{ℤ, pos, negsuc, ◌+ℤ◌, ◌-ℤ◌, neg_ℤ, List, [], ◌∷◌, ◌++◌, length, take, get_or, map}
 use Rattle.std.proofs.Common.{flat_map, All, cond, Ordering, FitsSigned, Fits, w32, to_z, of_z, refl, sym, ap, ◌∙◌}
 use Rattle.std.proofs.Common.{subst, arith}
 use Rattle.std.proofs.lemmas.Int.{ints, SFits-int_wrap, int_wrap_fits, int_wrap-add_left, int_wrap-add_right}
@@ -25,10 +25,10 @@ use Rattle.geom_core.specs.Order.{is_before}
 use Rattle.half_mesh.specs.declared.edges.Edge.{Edge}
 use Rattle.half_mesh.specs.declared.terms.EdgeTerm.{EdgeTerm}
 use Rattle.half_mesh.specs.Order.{edge_cmp}
-use Rattle.half_mesh.specs.Rim.{EdgeSums, IsAscending, same_edge, sum_in, sum_in_all}
+use Rattle.half_mesh.specs.Rim.{EdgeSums, IsAscending, same_edge}
 use Rattle.half_mesh.specs.Terms.{edge_of, term, term_of, terms_of, total_at, AreSmall, unless_cancelled, terms_in}
 use Rattle.half_mesh.specs.Terms.{terms_in_all, IsByEdge, AddUpAlike, IsSumOf}
-use Rattle.half_mesh.proofs.EdgeLaws.{edge_cmp-total, same_edge-is, same_edge-from, same_edge-itself, same_edge-before}
+use Rattle.half_mesh.proofs.EdgeLaws.{edge_cmp-total, same_edge-is, same_edge-from, same_edge-before}
 use Rattle.half_mesh.proofs.EdgeLaws.{derived_edge_eq, derived_edge_eq-is}
 use Rattle.geom_core.proofs.PointLaws.{true≢false}
 
@@ -40,7 +40,7 @@ regrouped a b c = omega (arith, ints)
 add_nothing : (a : ℤ) → a +ℤ pos 0 ≡ a
 add_nothing a = omega (arith, ints)
 
-nothing_added : (a : ℤ) → pos 0 +ℤ a ≡ a
+pub nothing_added : (a : ℤ) → pos 0 +ℤ a ≡ a
 nothing_added a = omega (arith, ints)
 
 pub total_at-append : (e : Edge) (xs ys : List EdgeTerm) → total_at e (xs ++ ys) ≡ total_at e xs +ℤ total_at e ys
@@ -178,7 +178,7 @@ pub record IsAdding (taken sums : List EdgeTerm) (last : EdgeTerm) : Type 0 wher
   pub small : AreSmall (sums ++ last ∷ [])
   pub total : (e : Edge) → total_at e (sums ++ last ∷ []) ≡ int_wrap w32 (total_at e taken)
 
-small_one : (t : EdgeTerm) → FitsSigned w32 t.sum → AreSmall (t ∷ [])
+pub small_one : (t : EdgeTerm) → FitsSigned w32 t.sum → AreSmall (t ∷ [])
 small_one t fits zero d in_bounds = fits
 small_one t fits (suc k) d in_bounds = absurd (omega arith)
 
@@ -257,7 +257,7 @@ adding_same taken sums last next sum so_far same is = record {
         ap (int_wrap w32) (sym (total_at-push e taken next ∙ rw (ap (λ f. same_edge f e) here ∙ at) refl)))
 
 -- leaving out a sum of 0 changes nothing
-total_at-unless_cancelled : (e : Edge) (sums : List EdgeTerm) (last : EdgeTerm) →
+pub total_at-unless_cancelled : (e : Edge) (sums : List EdgeTerm) (last : EdgeTerm) →
     total_at e (sums ++ unless_cancelled last) ≡ total_at e (sums ++ last ∷ [])
 total_at-unless_cancelled e sums last = by (int_eq last.sum (pos 0)) refl
   where
@@ -298,7 +298,7 @@ ascends_unless_cancelled sums last ascends = by (int_eq last.sum (pos 0)) refl
         rw (none, append-nil sums) (AllPairs-left (λ e f. edge_cmp e f ≡ Less) (edges_in sums) (last.edge ∷ []) ascends)
     by false other = rw (other, map-append (λ (t : EdgeTerm). t.edge) sums (last ∷ [])) ascends
 
-small_unless_cancelled : (sums : List EdgeTerm) (last : EdgeTerm) → AreSmall (sums ++ last ∷ []) →
+pub small_unless_cancelled : (sums : List EdgeTerm) (last : EdgeTerm) → AreSmall (sums ++ last ∷ []) →
     AreSmall (sums ++ unless_cancelled last)
 small_unless_cancelled sums last small = by (int_eq last.sum (pos 0)) refl
   where
@@ -397,30 +397,6 @@ alike-append xs ys us vs front back e =
   where
     wrapped : (a b : ℤ) → int_wrap w32 (a +ℤ b) ≡ int_wrap w32 (int_wrap w32 a +ℤ int_wrap w32 b)
     wrapped a b = sym (int_wrap-add_left w32 a (int_wrap w32 b) ∙ int_wrap-add_right w32 a b)
-
-pub sums-alike : (terms sums : List EdgeTerm) → IsSumOf terms sums → AddUpAlike sums terms
-sums-alike terms sums added e = ap (int_wrap w32) (added.total e) ∙ again (total_at e terms)
-  where
-    again : (a : ℤ) → int_wrap w32 (int_wrap w32 a) ≡ int_wrap w32 a
-    again a = int_wrap_fits w32 (int_wrap w32 a) (SFits-int_wrap w32 a)
-
--- a piece's terms are added up, and appended to those of earlier pieces
-pub alike-piece : {T : Type 0} (terms_at : T → List EdgeTerm) (tris rest piece later : List T)
-    (terms sums : List EdgeTerm) →
-    AddUpAlike (terms ++ flat_map terms_at rest) (flat_map terms_at tris) → rest ≡ piece ++ later →
-    IsSumOf (flat_map terms_at piece) sums →
-    AddUpAlike ((terms ++ sums) ++ flat_map terms_at later) (flat_map terms_at tris)
-alike-piece {T} terms_at tris rest piece later terms sums so_far whole added e =
-    ap (λ l. int_wrap w32 (total_at e l)) (append_assoc terms sums (flat_map terms_at later)) ∙
-    alike-append terms terms (sums ++ flat_map terms_at later) (flat_map terms_at rest) (λ f. refl) rest_alike e ∙
-    so_far e
-  where
-    rest_alike : AddUpAlike (sums ++ flat_map terms_at later) (flat_map terms_at rest)
-    rest_alike f =
-        alike-append sums (flat_map terms_at piece) (flat_map terms_at later) (flat_map terms_at later)
-        (sums-alike (flat_map terms_at piece) sums added) (λ g. refl) f ∙
-        ap (λ l. int_wrap w32 (total_at f l)) (sym
-        (ap (flat_map terms_at) whole ∙ flat_map-append terms_at piece later))
 
 -- ---- the loop that adds up
 
@@ -541,17 +517,6 @@ terms_small (t ∷ tris) =
         by true b h k = rw h (small_one (term (edge_of u v) (pos 1)) up)
         by false true h k = rw (h, k) (small_one (term (edge_of v u) (neg_ℤ (pos 1))) down)
         by false false h k = rw (h, k) (All-nil (λ (t : EdgeTerm). FitsSigned w32 t.sum))
-
--- a piece of the triangles is done
-pub alike_piece : (tris rest piece later : List Tri) (terms sums grown : List EdgeTerm) →
-    AreSmall terms × AddUpAlike (terms ++ flat_map terms_of rest) (flat_map terms_of tris) → rest ≡ piece ++ later →
-    IsSumOf (flat_map terms_of piece) sums → grown ≡ terms ++ sums →
-    AreSmall grown × AddUpAlike (grown ++ flat_map terms_of later) (flat_map terms_of tris)
-alike_piece tris rest piece later terms sums grown so_far whole added pushed =
-    rw pushed (
-      All-append (λ (t : EdgeTerm). FitsSigned w32 t.sum) terms sums so_far.0 added.small,
-      alike-piece terms_of tris rest piece later terms sums so_far.1 whole added,
-    )
 
 -- ---- the terms of a rim
 

@@ -4,13 +4,15 @@
 //! the number of times that they run back; an edge is on the rim if its sum isn't 0. The definitions are in
 //! `geom_core`.
 //!
-//! A rim is made by a sort of the triangles' edges, each with 1 or -1, and one walk that adds up equal edges.
-//! Rims of lists add up to the rim of the joined list, so each triangle's edges are sorted once. A table of edges
-//! has a rim, and the corners in one stable sort by point: the triangles round a point are a run of that list.
+//! A rim is made of the triangles' edges, each with 1 or -1: most of them cancel in a small table by their hash, and
+//! a sort of the others and one walk add up equal edges. Rims of lists add up to the rim of the joined list, so each
+//! triangle's edges are listed once. A table of edges has a rim, and the corners in one stable sort by point: the
+//! triangles round a point are a run of that list.
 //!
 //! On `Memory` what was given is unchanged, and nothing is kept.
 #![tactic(auto)]
 
+mod cancelling;
 mod corners;
 mod edges;
 mod incidences;

@@ -1,15 +1,19 @@
-ghost use Rattle.std.specs.Prelude.{◌≡◌, ◌≤◌, ◌↔◌, ◌++◌, OnOk, IfOk, IsTrue, List, length, map, flat_map, AllPairs, Contains};
+ghost use Rattle.std.specs.Prelude.{◌≡◌, ◌≤◌, ◌↔◌, ◌++◌, OnOk, IfOk, IsTrue, List, length, map, flat_map};
+ghost use Rattle.std.specs.Prelude.{AllPairs, Contains};
 ghost use Rattle.std.specs.declared.cmp.Ordering.TheVariants.{Less};
 ghost use Rattle.geom_core.specs.declared.limits.TheConstants.{MAX_SUMMED_TRIANGLES};
 ghost use Rattle.geom_core.specs.declared.points.Pt.{Pt};
 ghost use Rattle.geom_core.specs.declared.triangles.Tri.{Tri};
 ghost use Rattle.geom_core.specs.EdgeSum.{edge_sum, OnRim};
 ghost use Rattle.geom_core.specs.Order.{point_cmp};
+ghost use Rattle.half_mesh.specs.declared.cancelling.TheConstants.{SLOTS};
 ghost use Rattle.half_mesh.specs.declared.edges.Edge.{Edge};
-ghost use Rattle.half_mesh.specs.Rim.{EdgeSums, IsAscending, IsRim, IsRimOf, AreRimsOf, HaveSmallSums, all_of, sum_in, ends_of};
+ghost use Rattle.half_mesh.specs.Rim.{EdgeSums, IsAscending, IsRim, IsRimOf, AreRimsOf, HaveSmallSums};
+ghost use Rattle.half_mesh.specs.Rim.{all_of, sum_in, ends_of};
 ghost use Rattle.half_mesh.specs.Terms.{AddUpAlike, AreSmall, total_at, terms_of, terms_in};
 ghost use Rattle.std.specs.Int.{w32, int_wrap};
 
+use crate::cancelling::{EMPTY, SLOTS, push_held, put_terms};
 use crate::edges::Edge;
 use crate::terms::{EdgeTerm, list_terms, push_sums, sort_and_add_up};
 use geom_core::limits::TRIANGLES_PER_CLUSTER;
@@ -17,9 +21,14 @@ use geom_core::{Memory, Pt, Tri};
 use std::alloc::Global;
 use std::marker::Model;
 
-/// The most triangles whose edges are added up at first, in a list of more: as many as a cluster has. Their terms
-/// stay in the processor's cache, and the edges that cancel among them aren't sorted again.
+/// The most triangles whose edges are listed at once: as many as a cluster has.
 const PIECE: usize = TRIANGLES_PER_CLUSTER as usize;
+
+/// The edges of fewer triangles aren't worth a table.
+const FEWEST: usize = 16;
+
+/// The edges of a triangle.
+const EDGES: usize = 3;
 
 /// The rim of a list of triangles, its boundary edges: those whose sum isn't 0, ascending, each with its sum. A
 /// contract sees the edges and the sums (`EdgeSums`), and says `IsRimOf tris rim.edges rim.sums` of a list.
@@ -149,21 +158,95 @@ fn list_ends(alloc: Global, edges: &[Edge]) -> Result<Vec<Pt>, Memory>
     Ok(points)
 }
 
-/// Returns terms with the same sums as the edges of these triangles: those that are left of each piece.
+/// Returns terms with the same sums as the edges of these triangles. Where there are enough of them, terms of one edge
+/// meet in a table of slots; most of a mesh's edges cancel there, and aren't sorted.
 fn list_uncancelled(alloc: Global, tris: &[Tri]) -> Result<Vec<EdgeTerm>, Memory>
     ensures small { IfOk result (λ terms. AreSmall terms.items) }
     ensures sums { IfOk result (λ terms. AddUpAlike terms.items (flat_map terms_of tris.now)) }
 {
     let mut terms = Vec::new(alloc);
-    let mut listed = Vec::new(alloc);
-    let mut sums = Vec::new(alloc);
+    if tris.len() < FEWEST {
+        list_terms(&mut terms, tris)?;
+        return Ok(terms);
+    }
+    let mut slots = vec![in alloc; EMPTY; SLOTS]?;
+    cancel_edges(alloc, &mut slots, &mut terms, tris)?;
+    Ok(terms)
+}
+
+/// Puts the terms of the triangles' edges into the table, and appends those that lose their slots, and what the slots
+/// hold in the end, to `left`.
+fn cancel_edges(
+    alloc: Global,
+    slots: &mut [EdgeTerm],
+    left: &mut Vec<EdgeTerm>,
+    tris: &[Tri],
+) -> Result<(), Memory>
+    requires slots { length slots.old ≡ SLOTS }
+    requires small { AreSmall slots.old }
+    requires small_left { AreSmall left.old.items }
+    ensures small_left { OnOk result (AreSmall left.new.items) }
+    ensures sums { OnOk result (AddUpAlike left.new.items
+        ((left.old.items ++ slots.old) ++ flat_map terms_of tris.now)) }
+{
+    let mut listed = Vec::with_capacity(alloc, EDGES * tris.len().min(PIECE))?;
     let mut rest = tris;
     while !rest.is_empty() {
         let (piece, later) = rest.split_at(rest.len().min(PIECE));
         list_terms(&mut listed, piece)?;
-        sort_and_add_up(&mut sums, &mut listed)?;
-        terms.extend_from_slice(&sums)?;
+        put_terms(slots, left, &listed)?;
         rest = later;
     }
-    Ok(terms)
+    push_held(left, slots)?;
+    Ok(())
+}
+
+#[cfg(test)]
+mod tests {
+    use super::*;
+    use std::test::Fail;
+
+    /// Squares along a side of the patch.
+    const SIDE: u8 = 8;
+
+    /// A corner of a square of the patch: `right` and `up` are 0 or 1.
+    fn corner(i: u8, j: u8, right: u8, up: u8) -> Pt {
+        Pt {
+            x: 64 * (i32::from(i) + i32::from(right)),
+            y: 64 * (i32::from(j) + i32::from(up)),
+            z: 0,
+        }
+    }
+
+    /// Appends the two triangles of a square.
+    fn push_square(tris: &mut Vec<Tri>, i: u8, j: u8) -> Result<(), Memory> {
+        let a = corner(i, j, 0, 0);
+        let c = corner(i, j, 1, 1);
+        tris.push(Tri {
+            a,
+            b: corner(i, j, 1, 0),
+            c,
+        })?;
+        tris.push(Tri {
+            a,
+            b: c,
+            c: corner(i, j, 0, 1),
+        })?;
+        Ok(())
+    }
+
+    #[test]
+    fn most_edges_of_a_patch_cancel_before_the_sort(rt: HostRuntime) -> Result<(), Fail> {
+        let mut tris = Vec::new(rt.alloc());
+        for i in 0..SIDE {
+            for j in 0..SIDE {
+                push_square(&mut tris, i, j).map_err(|_| "memory")?;
+            }
+        }
+        let terms = list_uncancelled(rt.alloc(), &tris).map_err(|_| "memory")?;
+        // 384 are listed, and 32 edges lie on the rim
+        let left = terms.len();
+        assert!(rt; left < 64, "{left} terms are left");
+        Ok(())
+    }
 }

@@ -7,7 +7,7 @@ use geom_core::{Memory, Pt, Tri};
 use std::cmp::Ordering;
 
 /// The sum of an edge that cancels.
-const CANCELLED: i32 = 0;
+pub(crate) const CANCELLED: i32 = 0;
 
 /// A term of the sum of an edge: one use of the edge by a triangle, or the sum of the edge in a list.
 #[derive(Clone, Copy, Debug)]
@@ -77,7 +77,7 @@ pub(crate) fn push_sums(
 }
 
 /// Appends the term, unless its sum is 0.
-fn push_sum(sums: &mut Vec<EdgeTerm>, term: EdgeTerm) -> Result<(), Memory>
+pub(crate) fn push_sum(sums: &mut Vec<EdgeTerm>, term: EdgeTerm) -> Result<(), Memory>
     ensures { OnOk result (sums.new.items ≡ sums.old.items ++ unless_cancelled term) }
 {
     if term.sum != CANCELLED {

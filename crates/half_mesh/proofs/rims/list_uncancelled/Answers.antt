@@ -1,23 +1,16 @@
-use Rattle.std.proofs.Common.{◌≡◌, ◌++◌, flat_map, take, drop, FitsSigned, w32, refl, sym, ap, ◌∙◌}
-use Rattle.std.proofs.lemmas.List.{take-append-drop}
-use Rattle.std.proofs.lemmas.List.Elements.{All-append}
-use Rattle.half_mesh.specs.declared.terms.EdgeTerm.{EdgeTerm}
-use Rattle.half_mesh.specs.Terms.{AreSmall, AddUpAlike, terms_of}
-use Rattle.half_mesh.proofs.TermLaws.{terms_small, alike_piece}
+use Rattle.std.proofs.Common.{◌∙◌, flat_map}
+use Rattle.half_mesh.specs.Terms.{terms_of}
+use Rattle.half_mesh.specs.declared.cancelling.TheConstants.{SLOTS, EMPTY}
+use Rattle.half_mesh.proofs.CancelLaws.{from_empty}
+use Rattle.half_mesh.proofs.TermLaws.{terms_small}
 use Rattle.half_mesh.proofs.rims.list_uncancelled.Goals as goal
 
-pub sort_and_add_up-requires : goal.sort_and_add_up-requires
-sort_and_add_up-requires c = record {
-  small = rw c.in_ok-list_terms.ensures (terms_small c.split_at.result.0.now);
-}
+pub returns-then-tris-lt-FEWEST-clause-small : goal.returns-then-tris-lt-FEWEST-clause-small
+returns-then-tris-lt-FEWEST-clause-small c = rw c.in_ok-list_terms.ensures (terms_small c.args.tris.now)
 
-pub loop-rest-preserved : goal.loop-rest-preserved
-loop-rest-preserved c =
-    alike_piece c.args.tris.now c.loop-rest.rest.now c.split_at.result.0.now c.split_at.result.1.now
-    c.loop-rest.terms.items c.sort_and_add_up.new.sums.items c.extend_from_slice.new.self.items
-    c.loop-rest.invariant
-    (sym (take-append-drop c.min.result c.loop-rest.rest.now) ∙
-    ap (λ l. l ++ drop c.min.result c.loop-rest.rest.now) (sym c.split_at.ensures.front) ∙
-    ap (λ l. c.split_at.result.0.now ++ l) (sym c.split_at.ensures.back))
-    (rw c.in_ok-list_terms.ensures at c.in_ok-sort_and_add_up.ensures)
-    (c.in_ok-extend_from_slice.ensures.items ∙ ap (λ l. c.loop-rest.terms.items ++ l) c.deref.ensures.value)
+pub returns-clause-sums : goal.returns-clause-sums
+returns-clause-sums c =
+    from_empty SLOTS EMPTY.edge c.new-terms.result.items c.deref_mut.result.now (flat_map terms_of c.args.tris.now)
+    c.cancel_edges.new.left.items c.new-terms.ensures.items
+    (c.deref_mut.ensures.value ∙ c.in_ok-slots.ensures.items_if_clones_equal (λ y e. e))
+    c.in_ok-cancel_edges.ensures.sums
