@@ -1,5 +1,6 @@
 -- The least legal collapse of a point: what it depends on, and how it is found.
-use Rattle.std.proofs.Common.{◌≡◌, ◌⊎◌, inl, inr, ℕ, ◌+◌, ◌<◌, Bool, true, false, not, ◌||◌, List, [], ◌∷◌, map, take}
+use Rattle.std.proofs.Common.{◌≡◌, ◌⊎◌, inl, inr, ℕ, ◌+◌, ◌<◌, Bool, true, false, not, ◌||◌, List, [], ◌∷◌}
+use Rattle.std.proofs.Common.{take}
 use Rattle.std.proofs.Common.{length, get_or, All, Ordering, Option, Some, None, sum_by, refl, sym, ap, ◌∙◌}
 use Rattle.std.specs.List.{list_all, list_any}
 use Rattle.std.specs.Ordering.{is_lt}
@@ -22,18 +23,12 @@ use Rattle.rim_collapse.specs.Cost.{around, cost, key_cmp, key_of, plane_cost}
 use Rattle.rim_collapse.specs.Legal.{has_both, has_edge, is_among, is_legal, is_legal_collapse, keeps_facing}
 use Rattle.rim_collapse.specs.Normals.{minus}
 use Rattle.rim_collapse.specs.Internal.Bests.{IsBestAt, IsBestOf, beats, is_open}
-use Rattle.rim_collapse.specs.Internal.Facets.{IsFacet, facet_cost, facet_keeps, facet_of, tris_in}
+use Rattle.rim_collapse.specs.Internal.Faces.{point_at}
+use Rattle.rim_collapse.specs.Internal.Facets.{IsFacet, facet_cost, facet_keeps, tris_in}
+use Rattle.rim_collapse.proofs.AlikeLists.{AreAlike, all-alike, any-alike}
 use Rattle.rim_collapse.proofs.Determined.{key_cmp-total}
 
 -- ---- only the triangles round a point decide what its collapses cost and whether they are legal
-
-around-twice : (a : Pt) (tris : List Tri) → around a (around a tris) ≡ around a tris
-around-twice a [] = refl
-around-twice a (t ∷ tris) =
-    elim (cases_Bool (has_corner a t)) [
-      | inl has ↦ rw (has, has, around-twice a tris)
-      | inr hasnt ↦ rw (hasnt, around-twice a tris)
-    ]
 
 keeps_facing-apart : (a b : Pt) (t : Tri) → has_corner a t ≡ false → keeps_facing a b t ≡ true
 unfolding keeps_facing
@@ -48,7 +43,7 @@ legal-around a b (t ∷ tris) =
       | inr hasnt ↦ rw (hasnt, keeps_facing-apart a b t hasnt, legal-around a b tris)
     ]
 
-edge-around : (a b : Pt) (tris : List Tri) → list_any (has_both a b) (around a tris) ≡ list_any (has_both a b) tris
+pub edge-around : (a b : Pt) (tris : List Tri) → list_any (has_both a b) (around a tris) ≡ list_any (has_both a b) tris
 edge-around a b [] = refl
 edge-around a b (t ∷ tris) =
     elim (cases_Bool (has_corner a t)) [
@@ -56,17 +51,24 @@ edge-around a b (t ∷ tris) =
       | inr hasnt ↦ rw (hasnt, edge-around a b tris)
     ]
 
-key-alike : (xs ys : List Tri) (a b : Pt) → around a xs ≡ around a ys → key_of xs a b ≡ key_of ys a b
+key-alike : (xs ys : List Tri) (a b : Pt) → AreAlike (around a xs) (around a ys) → key_of xs a b ≡ key_of ys a b
 unfolding key_of cost
-key-alike xs ys a b same = rw same
+key-alike xs ys a b same = rw (same (plane_cost a b)) refl
 
-open-alike : (xs ys : List Tri) (a b : Pt) → around a xs ≡ around a ys → is_open xs a b ≡ is_open ys a b
+open-alike : (xs ys : List Tri) (a b : Pt) → AreAlike (around a xs) (around a ys) → is_open xs a b ≡ is_open ys a b
 unfolding has_edge is_legal
 open-alike xs ys a b same =
-    rw (sym (edge-around a b xs), sym (legal-around a b xs), sym (edge-around a b ys), sym (legal-around a b ys), same)
+    rw (
+      sym (edge-around a b xs),
+      sym (legal-around a b xs),
+      sym (edge-around a b ys),
+      sym (legal-around a b ys),
+      any-alike (has_both a b) (around a xs) (around a ys) same,
+      all-alike (keeps_facing a b) (around a xs) (around a ys) same,
+    ) refl
 
-pub best-alike : (xs ys : List Tri) (a : Pt) (tried : Pt → Bool) (best : Option Key) → around a xs ≡ around a ys →
-    IsBestOf xs a tried best → IsBestOf ys a tried best
+pub best-alike : (xs ys : List Tri) (a : Pt) (tried : Pt → Bool) (best : Option Key) →
+    AreAlike (around a xs) (around a ys) → IsBestOf xs a tried best → IsBestOf ys a tried best
 best-alike xs ys a tried None same best = λ q was_tried opens. best q was_tried (open-alike xs ys a q same ∙ opens)
 best-alike xs ys a tried (Some k) same best = (
   best.0 ∙ key-alike xs ys a k.to same,
@@ -85,9 +87,9 @@ pub right-alike : (xs ys : List Tri) (locked : List Pt) (a : Pt) (best : Option 
     IsBestAt xs locked a best → IsBestAt ys locked a best
 right-alike xs ys locked a None same best = λ q legal. best q (legal-alike xs ys locked a q same ∙ legal)
 right-alike xs ys locked a (Some k) same best = (
-  best.0 ∙ key-alike xs ys a k.to same,
+  best.0 ∙ key-alike xs ys a k.to (λ f. ap (sum_by f) same),
   sym (legal-alike xs ys locked a k.to same) ∙ best.1,
-  λ q legal. ap (λ l. is_lt (key_cmp l k)) (sym (key-alike xs ys a q same)) ∙
+  λ q legal. ap (λ l. is_lt (key_cmp l k)) (sym (key-alike xs ys a q (λ f. ap (sum_by f) same))) ∙
       best.2 q (legal-alike xs ys locked a q same ∙ legal),
 )
 
@@ -235,50 +237,45 @@ source-grid facets a b all corner =
     let f = All-contains (IsFacet a) facets any.1 all (any.0, any.2, any.3) in
     IsGridTriangle-corner any.1.tri a f.grid f.corner
 
--- the facets listed of a list of triangles
-tris_in-facets : (tris : List Tri) → tris_in (map facet_of tris) ≡ tris
-tris_in-facets [] = refl
-tris_in-facets (t ∷ tris) = ap (λ l. t ∷ l) (tris_in-facets tris)
-
 any-from_edge : (tris : List Tri) (a q : Pt) → has_edge tris a q ≡ true → list_any (has_both a q) tris ≡ true
 unfolding has_edge
 any-from_edge tris a q edge = (and_parts (not (same_point a q)) _ edge).1
 
--- each legal target of a is a corner of a triangle round it
-pub least-all : (tris : List Tri) (a : Pt) (best : Option Key) →
-    IsBestOf (tris_in (map facet_of (around a tris))) a
-    (λ q. list_any (λ f. has_corner q f.tri) (map facet_of (around a tris))) best →
-    IsBestOf tris a (λ q. true) best
-least-all tris a best least =
-    best-alike (around a tris) tris a (λ q. true) best (around-twice a tris)
-    (best-fewer (around a tris) a (λ q. list_any (λ f. has_corner q f.tri) (map facet_of (around a tris)))
-    (λ q. true) best
-    (λ q opens all. from_edge q (around a tris) (and_parts (has_edge (around a tris) a q) _ opens).0)
-    (rw (tris_in-facets (around a tris)) at least))
+-- Where the facets are the triangles round a, in some order, and all their corners are tried, so are all legal targets
+-- of a.
+pub least-all : (tris : List Tri) (facets : List Facet) (a : Pt) (tried : Pt → Bool) (best : Option Key) →
+    All (IsFacet a) facets → AreAlike (tris_in facets) (around a tris) →
+    ((q : Pt) → list_any (λ f. has_corner q f.tri) facets ≡ true → tried q ≡ true) →
+    IsBestOf (tris_in facets) a tried best → IsBestOf tris a (λ q. true) best
+least-all tris facets a tried best all alike each least =
+    best-alike (tris_in facets) tris a (λ q. true) best
+    (λ f. ap (sum_by f) (facets-tris facets a all) ∙ alike f)
+    (best-fewer (tris_in facets) a tried (λ q. true) best
+    (λ q opens was. each q (any_both q facets
+    (any-from_edge (tris_in facets) a q (and_parts (has_edge (tris_in facets) a q) _ opens).0))) least)
   where
-    any_both : (q : Pt) (some : List Tri) → list_any (has_both a q) some ≡ true →
-        list_any (λ f. has_corner q f.tri) (map facet_of some) ≡ true
+    any_both : (q : Pt) (some : List Facet) → list_any (has_both a q) (tris_in some) ≡ true →
+        list_any (λ f. has_corner q f.tri) some ≡ true
     any_both q [] h = h
-    any_both q (t ∷ some) h =
-        elim (or_cases (has_both a q t) (list_any (has_both a q) some) h) [
-          | inl here ↦ or_left _ _ (and_parts (has_corner a t) (has_corner q t) here).1
+    any_both q (f ∷ some) h =
+        elim (or_cases (has_both a q f.tri) (list_any (has_both a q) (tris_in some)) h) [
+          | inl here ↦ or_left _ _ (and_parts (has_corner a f.tri) (has_corner q f.tri) here).1
           | inr later ↦ or_right _ _ (any_both q some later)
         ]
 
-    from_edge : (q : Pt) (some : List Tri) → has_edge some a q ≡ true →
-        list_any (λ f. has_corner q f.tri) (map facet_of some) ≡ true
-    from_edge q some edge = any_both q some (any-from_edge some a q edge)
-
--- one more facet
-pub best-more : (facets : List Facet) (a : Pt) (i : ℕ) (d : Facet) (best : Option Key) → i < length facets →
-    IsBestOf (tris_in facets) a
-    (λ q. list_any (λ g. has_corner q g.tri) (take i facets) || has_corner q (get_or facets i d).tri) best →
-    IsBestOf (tris_in facets) a (λ q. list_any (λ g. has_corner q g.tri) (take (i + 1) facets)) best
-best-more facets a i d best within was =
-    best-fewer (tris_in facets) a
-    (λ q. list_any (λ g. has_corner q g.tri) (take i facets) || has_corner q (get_or facets i d).tri)
-    (λ q. list_any (λ g. has_corner q g.tri) (take (i + 1) facets)) best
-    (λ q opens tried. sym (list_any_more (λ (g : Facet). has_corner q g.tri) facets i d within) ∙ tried) was
+-- one more target
+pub best-more : (tris : List Tri) (a : Pt) (points : List Pt) (targets : List ℕ) (i d : ℕ) (best : Option Key) →
+    i < length targets →
+    IsBestOf tris a
+    (λ q. list_any (λ n. same_point (point_at points n) q) (take i targets) ||
+    same_point (point_at points (get_or targets i d)) q) best →
+    IsBestOf tris a (λ q. list_any (λ n. same_point (point_at points n) q) (take (i + 1) targets)) best
+best-more tris a points targets i d best within was =
+    best-fewer tris a
+    (λ q. list_any (λ n. same_point (point_at points n) q) (take i targets) ||
+    same_point (point_at points (get_or targets i d)) q)
+    (λ q. list_any (λ n. same_point (point_at points n) q) (take (i + 1) targets)) best
+    (λ q opens tried. sym (list_any_more (λ n. same_point (point_at points n) q) targets i d within) ∙ tried) was
 
 -- ---- points that may be locked
 

@@ -11,7 +11,7 @@ use Rattle.std.proofs.lemmas.Cmp.{tied_itself}
 use Rattle.std.proofs.lemmas.List.{get_or_default, get_or-map, length-map, map-append, map_more}
 use Rattle.std.proofs.lemmas.List.Sorted.{searchable_from_sorted}
 use Rattle.std.specs.List.Sorted.{IsBinarySearchResult}
-use Rattle.std.proofs.lemmas.List.Elements.{All-head, All-tail, All-cons, All-nil, Contains-get_or}
+use Rattle.std.proofs.lemmas.List.Elements.{All-head, All-tail, Contains-get_or}
 use Rattle.geom_core.specs.declared.points.Pt.{Pt}
 use Rattle.geom_core.specs.declared.triangles.Tagged.{Tagged}
 use Rattle.geom_core.specs.Collapses.{replaced, replaced_point}
@@ -163,17 +163,6 @@ state_of-after tris points a b (f ∷ faces) ascending in_a in_b all =
     elim (cases_Bool (has_distinct_numbers (face_to a b f))) [
       | inl left ↦ rw (left, distinct ∙ left, is, sym rest)
       | inr left_out ↦ rw (left_out, distinct ∙ left_out, sym rest)
-    ]
-
-pub faces_after-all : (P : Face → Type 0) (a b : ℕ) (faces : List Face) →
-    ((f : Face) → P f → P (face_to a b f)) → All P faces → All P (faces_after a b faces)
-faces_after-all P a b [] keeps all = All-nil P
-faces_after-all P a b (f ∷ faces) keeps all =
-    let rest = faces_after-all P a b faces keeps (All-tail P f faces all) in
-    elim (cases_Bool (has_distinct_numbers (face_to a b f))) [
-      | inl left ↦ rw left (All-cons P (face_to a b f) (faces_after a b faces)
-          (keeps f (All-head P f faces all)) rest)
-      | inr left_out ↦ rw left_out rest
     ]
 
 -- ---- states

@@ -1,13 +1,11 @@
 -- The triangles round the point that may move: what their listing, cost and legality are in terms of the whole list.
-use Rattle.std.proofs.Common.{◌≡◌, inl, inr, ℕ, ◌+◌, ◌*◌, ◌^◌, ◌<◌, ◌≤◌, Bool, true, false, not, ◌&&◌, ◌||◌, cond, ℤ}
-use Rattle.std.proofs.Common.{pos, unsigned_abs, to_z, of_z, List, [], ◌∷◌, ◌++◌, map, filter, take, length, get_or}
-use Rattle.std.proofs.Common.{refl, sym, ap, ◌∙◌, subst, arith}
+use Rattle.std.proofs.Common.{◌≡◌, inl, inr, ◌*◌, ◌^◌, ◌≤◌, Bool, true, false, not, ◌&&◌, ◌||◌, ℤ}
+use Rattle.std.proofs.Common.{pos, unsigned_abs, to_z, of_z}
+use Rattle.std.proofs.Common.{refl, sym, subst, arith}
 use Rattle.std.specs.Int.{w128}
 use Rattle.std.specs.Prelude.{int_le}
 use Rattle.std.proofs.lemmas.Bool.{and_parts, and_from}
 use Rattle.std.proofs.lemmas.Int.{ints}
-use Rattle.std.proofs.lemmas.List.{map-append}
-use Rattle.std.proofs.lemmas.List.Elements.{filter_more}
 use Rattle.geom_core.specs.declared.points.Pt.{Pt}
 use Rattle.geom_core.specs.declared.triangles.Tri.{Tri}
 use Rattle.geom_core.specs.Collapses.{replaced_point, replaced}
@@ -18,20 +16,6 @@ use Rattle.geom_core.proofs.CollapseLaws.{one_or_two, replaced_point-at, replace
 use Rattle.rim_collapse.specs.declared.vectors.Vector.{Vector}
 use Rattle.rim_collapse.specs.Legal.{keeps_facing}
 use Rattle.rim_collapse.specs.Normals.{dot, normal}
-
--- ---- lists
-
-map-cond : {X Y : Type 0} (f : X → Y) (b : Bool) (x : X) → map f (cond b (x ∷ []) []) ≡ cond b (f x ∷ []) []
-map-cond f true x = refl
-map-cond f false x = refl
-
-pub map-filter_more : {X Y : Type 0} (f : X → Y) (p : X → Bool) (xs : List X) (i : ℕ) (d : X) → i < length xs →
-    map f (filter p (take (i + 1) xs)) ≡
-    map f (filter p (take i xs)) ++ cond (p (get_or xs i d)) (f (get_or xs i d) ∷ []) []
-map-filter_more f p xs i d within =
-    ap (map f) (filter_more p xs i d within) ∙
-    map-append f (filter p (take i xs)) (cond (p (get_or xs i d)) (get_or xs i d ∷ []) []) ∙
-    ap (λ l. map f (filter p (take i xs)) ++ l) (map-cond f (p (get_or xs i d)) (get_or xs i d))
 
 -- ---- triangles of a mesh
 

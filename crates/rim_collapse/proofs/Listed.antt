@@ -1,12 +1,10 @@
 -- The facets that are listed of a list of triangles, and candidates among them.
-use Rattle.std.proofs.Common.{◌≡◌, ℕ, ◌^◌, ◌≤◌, Bool, true, false, ◌&&◌, ◌||◌, ℤ, ◌-ℤ◌, ◌*ℤ◌, unsigned_abs, List, []}
-use Rattle.std.proofs.Common.{◌∷◌, map, length, All, Contains, if◌then◌else◌, refl, ap, ◌∙◌, arith}
-use Rattle.std.specs.List.{list_any}
+use Rattle.std.proofs.Common.{◌≡◌, ℕ, ◌^◌, ◌≤◌, Bool, true, false, ◌&&◌, ℤ, ◌-ℤ◌, ◌*ℤ◌, unsigned_abs, List}
+use Rattle.std.proofs.Common.{map, All, refl, arith}
 use Rattle.std.proofs.lemmas.Bool.{and_parts}
 use Rattle.std.proofs.lemmas.Bool.Decides.{nat_tests}
 use Rattle.std.specs.Prelude.{nat_le, IsTrue}
 use Rattle.std.proofs.lemmas.List.Elements.{All-filter, All-map, filter_passes}
-use Rattle.std.proofs.lemmas.List.Folds.{list_any_at}
 use Rattle.geom_core.specs.declared.points.Pt.{Pt}
 use Rattle.geom_core.specs.declared.triangles.Tri.{Tri}
 use Rattle.geom_core.specs.Corners.{has_corner}
@@ -15,7 +13,6 @@ use Rattle.geom_core.specs.EdgeSum.{same_point}
 use Rattle.geom_core.specs.Limits.{is_grid_coordinate, IsGridCoordinate, is_grid_point, IsGridPoint, HasGridCorners}
 use Rattle.geom_core.specs.Limits.{IsGridTriangle}
 use Rattle.geom_core.proofs.SizeLaws.{size-mul, size-sub}
-use Rattle.rim_collapse.specs.declared.facets.Facet.{Facet}
 use Rattle.rim_collapse.specs.declared.vectors.Vector.{Vector}
 use Rattle.rim_collapse.specs.Cost.{around, cost, key_of}
 use Rattle.rim_collapse.specs.Legal.{has_edge, is_legal}
@@ -81,15 +78,6 @@ facets-listed a tris all = All-map (IsFacet a) facet_of (around a tris) (λ k d 
       size = normal-size t (HasGridCorners-grid t grid);
     }
 
-pub length-listed : (a : Pt) (tris : List Tri) → length (map facet_of (around a tris)) ≤ length tris
-length-listed a [] = omega arith
-length-listed a (t ∷ tris) = by (has_corner a t) (around a tris) (length-listed a tris)
-  where
-    by : (has : Bool) (some : List Tri) → length (map facet_of some) ≤ length tris →
-        length (map facet_of (if has then t ∷ some else some)) ≤ length (t ∷ tris)
-    by true some h = omega arith
-    by false some h = omega arith
-
 -- ---- candidates
 
 pub key-is : (tris : List Tri) (a b : Pt) (n m : ℕ) → n ≡ cost tris a b → m ≡ distance a b →
@@ -107,13 +95,3 @@ closed-illegal tris a b illegal = rw illegal (second (has_edge tris a b))
     second : (x : Bool) → x && false ≡ false
     second true = refl
     second false = refl
-
-pub corner-in : (facets : List Facet) (f : Facet) (p : Pt) → Contains facets f → has_corner p f.tri ≡ true →
-    list_any (λ g. has_corner p g.tri) facets ≡ true
-corner-in facets f p here has =
-    list_any_at (λ (g : Facet). has_corner p g.tri) facets here.0 f here.1
-    (ap (λ (g : Facet). has_corner p g.tri) here.2 ∙ has)
-
-pub or_regroup : (x a b c : Bool) → x || (a || b || c) ≡ true → x || a || b || c ≡ true
-or_regroup true a b c h = refl
-or_regroup false a b c h = h

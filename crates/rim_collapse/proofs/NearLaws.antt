@@ -1,12 +1,12 @@
--- Which points' collapses a collapse leaves as they are, and which triangles decide those of the marked points.
+-- Which points' collapses a collapse leaves as they are.
 use Rattle.std.proofs.Common.{◌≡◌, ◌≢◌, inl, inr, ℕ, ◌<◌, ◌≤◌, Bool, true, false, not, ◌||◌, List, [], ◌∷◌, filter, map}
 use Rattle.std.proofs.Common.{length, get_or, cond, All, Option, None, refl, sym, ap, ◌∙◌, subst, arith}
 use Rattle.std.specs.Bool.{◌==◌}
 use Rattle.std.specs.Prelude.{slice_index_or}
-use Rattle.std.proofs.lemmas.Bool.{and_parts, cases_Bool, or_cases, or_left, or_right}
+use Rattle.std.proofs.lemmas.Bool.{and_parts, cases_Bool, or_cases}
 use Rattle.std.proofs.lemmas.Bool.Decides.{nat_tests}
 use Rattle.std.proofs.lemmas.List.{get_or-map, length-map}
-use Rattle.std.proofs.lemmas.List.Elements.{All-contains, All-filter, All-head, All-map, All-tail, All-weaker}
+use Rattle.std.proofs.lemmas.List.Elements.{All-contains, All-head, All-map, All-tail, All-weaker}
 use Rattle.std.proofs.lemmas.List.Folds.{Any-from_list_any}
 use Rattle.geom_core.specs.declared.points.Pt.{Pt}
 use Rattle.geom_core.specs.declared.triangles.Tri.{Tri}
@@ -23,9 +23,9 @@ use Rattle.rim_collapse.specs.Cost.{around}
 use Rattle.rim_collapse.specs.Legal.{has_both, has_edge}
 use Rattle.rim_collapse.specs.States.{present}
 use Rattle.rim_collapse.specs.Internal.Bests.{AreRight, IsBestAt}
-use Rattle.rim_collapse.specs.Internal.Faces.{IsNumbered, face_to, faces_after, has_distinct_numbers, has_number}
+use Rattle.rim_collapse.specs.Internal.Faces.{IsNumbered, faces_after, has_number}
 use Rattle.rim_collapse.specs.Internal.Faces.{point_at, state_of, tri_at, tris_at}
-use Rattle.rim_collapse.specs.Internal.Marks.{AreMarkedRound, HasMarkedCorners, is_marked, touches}
+use Rattle.rim_collapse.specs.Internal.Marks.{AreMarkedRound, HasMarkedCorners, is_marked}
 use Rattle.rim_collapse.proofs.BestLaws.{right-alike}
 use Rattle.rim_collapse.proofs.FaceLaws.{IsAscending, corner-number, present-state_of, state_of-after}
 use Rattle.rim_collapse.proofs.Following.{present-after, target-corner}
@@ -33,43 +33,8 @@ use Rattle.rim_collapse.proofs.Following.{present-after, target-corner}
 clash : (x : Bool) → x ≡ true → x ≡ false → ⊥
 clash x h k = cc
 
--- ---- near triangles
-
 equal_from : (n m : ℕ) → n == m ≡ true → n ≡ m
 equal_from n m h = grind (arith, nat_tests)
-
--- a face with a marked corner is touched
-pub touches-number : (marks : List Bool) (n : ℕ) (f : Face) → is_marked marks n ≡ true → has_number n f ≡ true →
-    touches marks f ≡ true
-unfolding touches has_number
-touches-number marks n f marked has =
-    elim (or_cases (f.a == n || f.b == n) (f.c == n) has) [
-      | inl front ↦
-          elim (or_cases (f.a == n) (f.b == n) front) [
-            | inl at ↦ or_left _ _ (or_left _ _ (ap (is_marked marks) (equal_from f.a n at) ∙ marked))
-            | inr at ↦ or_left _ _ (or_right _ _ (ap (is_marked marks) (equal_from f.b n at) ∙ marked))
-          ]
-      | inr at ↦ or_right _ _ (ap (is_marked marks) (equal_from f.c n at) ∙ marked)
-    ]
-
--- so the triangles round a marked point are all near
-pub around-near : (marks : List Bool) (points : List Pt) (n : ℕ) (faces : List Face) → IsAscending points →
-    n < length points → is_marked marks n ≡ true → All (IsNumbered (length points)) faces →
-    around (point_at points n) (tris_at points (filter (touches marks) faces)) ≡
-    around (point_at points n) (tris_at points faces)
-around-near marks points n [] ascending within marked all = refl
-around-near marks points n (f ∷ faces) ascending within marked all =
-    let is = corner-number points n f ascending within (All-head (IsNumbered (length points)) f faces all) in
-    let rest = around-near marks points n faces ascending within marked
-    (All-tail (IsNumbered (length points)) f faces all) in
-    elim (cases_Bool (has_number n f)) [
-      | inl has ↦ rw (touches-number marks n f marked has, is ∙ has, rest)
-      | inr hasnt ↦
-          elim (cases_Bool (touches marks f)) [
-            | inl near ↦ rw (near, is ∙ hasnt, rest)
-            | inr far ↦ rw (far, is ∙ hasnt, rest)
-          ]
-    ]
 
 -- ---- after a collapse
 
@@ -225,17 +190,6 @@ right-after marks points locked a b faces bests next ascending in_a in_b all gri
           around-unmarked marks points a b k faces ascending in_a in_k all grid round unmarked edge)) (right k in_k))
     ]
 
--- what is asked over the near triangles is so over all
-pub asked-near : (marks : List Bool) (points locked : List Pt) (faces : List Face) (next : List (Option Key)) →
-    IsAscending points → All (IsNumbered (length points)) faces →
-    ((k : ℕ) → k < length points → is_marked marks k ≡ true →
-    IsBestAt (tris_at points (filter (touches marks) faces)) locked (point_at points k) (slice_index_or next k None)) →
-    (k : ℕ) → k < length points → is_marked marks k ≡ true →
-    IsBestAt (tris_at points faces) locked (point_at points k) (slice_index_or next k None)
-asked-near marks points locked faces next ascending all asked k in_k marked =
-    right-alike (tris_at points (filter (touches marks) faces)) (tris_at points faces) locked (point_at points k)
-    (slice_index_or next k None) (around-near marks points k faces ascending in_k marked all) (asked k in_k marked)
-
 length-filtered : {X : Type 0} (p : X → Bool) (xs : List X) → length (filter p xs) ≤ length xs
 length-filtered p [] = omega arith
 length-filtered {X = X} p (x ∷ xs) = by (p x) (filter p xs) (length-filtered p xs)
@@ -245,27 +199,11 @@ length-filtered {X = X} p (x ∷ xs) = by (p x) (filter p xs) (length-filtered p
     by true some h = omega arith
     by false some h = omega arith
 
-unmapped : {X Y : Type 0} (P : Y → Type 0) (f : X → Y) (xs : List X) → All P (map f xs) → All (λ x. P (f x)) xs
+pub unmapped : {X Y : Type 0} (P : Y → Type 0) (f : X → Y) (xs : List X) → All P (map f xs) → All (λ x. P (f x)) xs
 unmapped P f xs all k d in_list =
     subst P (get_or-map f xs k d (f d) in_list) (all k (f d) (omega (arith, length-map xs f)))
 
-pub near-few : (marks : List Bool) (points : List Pt) (faces : List Face) →
-    length (tris_at points (filter (touches marks) faces)) ≤ length faces
-near-few marks points faces =
-    omega (arith, length-filtered (touches marks) faces, length-map (filter (touches marks) faces) (tri_at points))
-
-pub near-grid : (marks : List Bool) (points : List Pt) (faces : List Face) → All IsGridTriangle (tris_at points faces) →
-    All IsGridTriangle (tris_at points (filter (touches marks) faces))
-near-grid marks points faces grid =
-    All-map IsGridTriangle (tri_at points) (filter (touches marks) faces)
-    (All-filter (touches marks) (λ f. IsGridTriangle (tri_at points f)) faces
-    (unmapped IsGridTriangle (tri_at points) faces grid))
-
 -- ---- the faces after a collapse
-
-pub after-few : (a b : ℕ) (faces : List Face) → length (faces_after a b faces) ≤ length faces
-after-few a b faces =
-    omega (arith, length-filtered has_distinct_numbers (map (face_to a b) faces), length-map faces (face_to a b))
 
 pub after-grid : (points : List Pt) (a b : ℕ) (faces : List Face) → IsAscending points → a < length points →
     b < length points → All (IsNumbered (length points)) faces → All IsGridTriangle (tris_at points faces) →

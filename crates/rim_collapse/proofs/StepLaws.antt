@@ -1,5 +1,5 @@
 -- The next collapse among those of all points, and the state after it.
-use Rattle.std.proofs.Common.{◌≡◌, inr, ℕ, ◌+◌, ◌*◌, ◌<◌, ◌≤◌, Bool, true, false, not, ◌&&◌, if◌then◌else◌, List, []}
+use Rattle.std.proofs.Common.{◌≡◌, inr, ℕ, ◌+◌, ◌*◌, ◌<◌, Bool, true, false, not, ◌&&◌, if◌then◌else◌, List, []}
 use Rattle.std.proofs.Common.{◌∷◌, ◌++◌, flat_map, max, Ordering, take, length, get_or, All, Any, Contains, IsTrue}
 use Rattle.std.proofs.Common.{Option, Some, None, refl, sym, ap, ◌∙◌, subst, arith}
 use Prim.Native.Nat.{zero, suc}
@@ -21,7 +21,6 @@ use Rattle.geom_core.specs.Corners.{has_corner, IsCornerIn}
 use Rattle.geom_core.specs.EdgeSum.{same_point}
 use Rattle.geom_core.proofs.CollapseCorners.{at_corner}
 use Rattle.geom_core.proofs.CollapseCounts.{length-lt-collapsed}
-use Rattle.geom_core.specs.Limits.{IsGridTriangle}
 use Rattle.geom_core.specs.Order.{point_cmp}
 use Rattle.geom_core.proofs.PointLaws.{point_cmp-total, same_point-is, same_point-refl}
 use Rattle.rim_collapse.specs.declared.faces.Face.{Face}
@@ -31,15 +30,14 @@ use Rattle.rim_collapse.specs.Cost.{key_cmp, key_of}
 use Rattle.rim_collapse.specs.Legal.{has_both, has_edge, is_among, is_legal_collapse}
 use Rattle.rim_collapse.specs.Moved.{moved_of, shift}
 use Rattle.rim_collapse.specs.Simplified.{IsNext, Lead}
-use Rattle.rim_collapse.specs.States.{after, begun, present}
+use Rattle.rim_collapse.specs.States.{after, present}
 use Rattle.rim_collapse.specs.Internal.Bests.{AreRight, IsBestAmong, IsBestAt, lesser_of}
 use Rattle.rim_collapse.specs.Internal.Faces.{IsNumbered, origin, point_at, state_of, tris_at}
-use Rattle.rim_collapse.proofs.FaceLaws.{length-state_of, present-state_of}
 use Rattle.rim_collapse.specs.Internal.Points.{corners_of}
 use Rattle.rim_collapse.specs.Internal.Steps.{IsNextOf}
 use Rattle.rim_collapse.proofs.BestLaws.{before-all}
 use Rattle.rim_collapse.proofs.Determined.{key_cmp-total}
-use Rattle.rim_collapse.proofs.Following.{edge-from_legal, present-after, state-length, state-triangles}
+use Rattle.rim_collapse.proofs.Following.{edge-from_legal, present-after}
 
 -- ---- the least of several points' collapses
 
@@ -154,44 +152,18 @@ next-of locked n state points (Some k) many covered best = record {
   };
 }
 
--- what is found over the listed faces and bests is the next collapse
-pub found-next : (tris : List Tagged) (locked points : List Pt) (faces seen : List Face)
-    (bests asked : List (Option Key)) (found : Option Key) → seen ≡ faces → asked ≡ bests →
-    ((given : List Tagged) (held listed : List Pt) → All (IsNumbered (length listed)) seen →
-    length asked ≡ length listed → AreRight (tris_at listed seen) held listed asked →
-    IsNextOf held (length tris) (state_of given listed seen) found) →
+-- what is found over the listed bests is the next collapse
+pub found-next : (tris : List Tagged) (locked points : List Pt) (faces : List Face) (count : ℕ)
+    (bests asked : List (Option Key)) (found : Option Key) → count ≡ length faces → asked ≡ bests →
+    ((given : List Tagged) (held listed : List Pt) (some : List Face) → count ≡ length some →
+    All (IsNumbered (length listed)) some → length asked ≡ length listed →
+    AreRight (tris_at listed some) held listed asked → IsNextOf held (length tris) (state_of given listed some) found) →
     All (IsNumbered (length points)) faces → length bests ≡ length points →
     AreRight (tris_at points faces) locked points bests →
     IsNextOf locked (length tris) (state_of tris points faces) found
-found-next tris locked points faces seen bests asked found same_faces same_bests next numbered count right =
-    subst (λ l. IsNextOf locked (length tris) (state_of tris points l) found) same_faces
-    (next tris locked points (subst (All (IsNumbered (length points))) (sym same_faces) numbered)
-    (ap length same_bests ∙ count)
-    (subst (λ l. AreRight (tris_at points l) locked points asked) (sym same_faces)
-    (subst (AreRight (tris_at points faces) locked points) (sym same_bests) right)))
-
--- the faces that some collapses leave
-pub left-few : (tris : List Tagged) (locked points : List Pt) (faces : List Face) (collapses : List (Pt × Pt)) →
-    All IsGridTriangle (tris_of tris) →
-    Lead locked (length tris) collapses (begun tris) (state_of tris points faces) → length faces ≤ length tris
-left-few tris locked points faces collapses grid lead =
-    omega (
-      arith,
-      state-length tris locked (length tris) collapses (state_of tris points faces) grid lead,
-      length-state_of tris points faces,
-    )
-
-pub left-grid : (tris : List Tagged) (locked points : List Pt) (faces : List Face) (collapses : List (Pt × Pt)) →
-    All IsGridTriangle (tris_of tris) →
-    Lead locked (length tris) collapses (begun tris) (state_of tris points faces) →
-    All IsGridTriangle (tris_at points faces)
-left-grid tris locked points faces collapses grid lead =
-    subst (All IsGridTriangle) (present-state_of tris points faces)
-    (state-triangles tris locked (length tris) collapses (state_of tris points faces) grid lead)
-
-pub length-tris_of : (tris : List Tagged) → length (tris_of tris) ≡ length tris
-length-tris_of [] = refl
-length-tris_of (t ∷ tris) = omega (arith, length-tris_of tris)
+found-next tris locked points faces count bests asked found left same next numbered listed right =
+    next tris locked points faces left numbered (ap length same ∙ listed)
+    (subst (AreRight (tris_at points faces) locked points) (sym same) right)
 
 pub lead-more : (locked : List Pt) (n : ℕ) (collapses : List (Pt × Pt)) (state middle : List Kept) (a b : Pt) →
     Lead locked n collapses state middle → IsNext locked n middle a b →
@@ -202,7 +174,7 @@ lead-more locked n [] state middle a b lead next =
 lead-more locked n (c ∷ collapses) state middle a b lead next =
     (lead.0, lead-more locked n collapses (after c.0 c.1 state) middle a b lead.1 next)
 
-edge_apart : (tris : List Tri) (a b : Pt) → has_edge tris a b ≡ true → a ≡ b → ⊥
+pub edge_apart : (tris : List Tri) (a b : Pt) → has_edge tris a b ≡ true → a ≡ b → ⊥
 unfolding has_edge
 edge_apart tris a b edge same = both (same_point a b) _ edge (same_point-refl a b same)
   where

@@ -1,6 +1,5 @@
 ghost use Rattle.std.specs.Prelude.{◌≡◌};
 ghost use Rattle.geom_core.specs.Collapses.{replaced, replaced_point};
-ghost use Rattle.geom_core.specs.Corners.{has_corner};
 ghost use Rattle.geom_core.specs.EdgeSum.{same_point};
 
 use geom_core::{Pt, Tri};
@@ -10,14 +9,6 @@ pub(crate) fn is_same(p: Pt, q: Pt) -> bool
     ensures { result ≡ same_point p q }
 {
     p == q
-}
-
-/// Whether the point is a corner of the triangle.
-#[tactic(auto, unfolding(geom_core::specs::Corners::has_corner))]
-pub(crate) fn has_corner(tri: Tri, p: Pt) -> bool
-    ensures { result ≡ has_corner p tri }
-{
-    is_same(tri.a, p) || is_same(tri.b, p) || is_same(tri.c, p)
 }
 
 /// Returns b if the point is a, else the point.

@@ -1,5 +1,7 @@
-ghost use Rattle.std.specs.Prelude.{◌≡◌, ◌≤◌, ◌<◌, ◌*◌, ◌+◌, ◌++◌, IfOk, IsTrue, length, take, drop, All};
+ghost use Rattle.std.specs.Prelude.{◌≡◌, ◌≢◌, ◌≤◌, ◌<◌, ◌*◌, ◌+◌, ◌/◌, ◌==◌, ◌&&◌, not, true, ℕ, IfOk, length, map};
+ghost use Rattle.std.specs.Prelude.{All, slice_index_or};
 ghost use Rattle.std.specs.Prelude.{AllPairs, Contains};
+ghost use Rattle.std.specs.List.{list_any};
 ghost use Rattle.std.specs.declared.cmp.Ordering.TheVariants.{Less};
 ghost use Rattle.geom_core.specs.declared.limits.TheConstants.{TRIANGLES_PER_GROUP};
 ghost use Rattle.geom_core.specs.declared.points.Pt.{Pt};
@@ -7,13 +9,14 @@ ghost use Rattle.geom_core.specs.Corners.{IsCornerIn};
 ghost use Rattle.geom_core.specs.Order.{point_cmp};
 ghost use Rattle.geom_core.specs.TaggedLists.{tris_of};
 ghost use Rattle.rim_collapse.specs.States.{begun};
+ghost use Rattle.rim_collapse.specs.Internal.Chains.{no_face};
 ghost use Rattle.rim_collapse.specs.Internal.Faces.{
   IsNumbered,
   face_to,
-  faces_after,
   has_distinct_numbers,
   has_number,
   kept_at,
+  left,
   point_at,
   renumbered,
   state_of,
@@ -39,14 +42,6 @@ pub(crate) struct Face {
     pub was: u32,
 }
 
-/// Whether the number is that of a corner.
-#[tactic(auto, unfolding(crate::specs::Internal::Faces::has_number))]
-pub(crate) fn has_number(face: Face, n: u32) -> bool
-    ensures { result ≡ has_number n face }
-{
-    face.a == n || face.b == n || face.c == n
-}
-
 /// Returns b if the number is a, else the number.
 #[tactic(auto, unfolding(crate::specs::Internal::Faces::renumbered))]
 fn renumbered(n: u32, a: u32, b: u32) -> u32
@@ -69,45 +64,52 @@ fn face_to(face: Face, a: u32, b: u32) -> Face
 
 /// Whether no two corners have the same number.
 #[tactic(auto, unfolding(crate::specs::Internal::Faces::has_distinct_numbers))]
-fn has_distinct_numbers(face: Face) -> bool
+pub(crate) fn has_distinct_numbers(face: Face) -> bool
     ensures { result ≡ has_distinct_numbers face }
 {
     face.a != face.b && face.b != face.c && face.c != face.a
 }
 
-/// Does a collapse of a to b: replaces a by b in each face, and drops those that then have a number twice. The other
-/// faces keep their order. Only faces with a change, so the list is closed up in place.
-pub(crate) fn collapse_faces(faces: &mut Vec<Face>, a: u32, b: u32)
-    requires distinct { All (λ f. IsTrue (has_distinct_numbers f)) faces.old.items }
-    ensures { faces.new.items ≡ faces_after a b faces.old.items }
+/// Returns the index of the face that has the corner with this index.
+pub(crate) fn slot_of(corner: u32) -> usize
+    ensures { result ≡ corner / 3 }
 {
-    let mut k = faces.len();
-    'faces: while k > 0 {
-        k -= 1;
-        if has_number(faces[k], a) {
-            collapse_face(faces, k, a, b);
-        }
-    }
+    (corner / 3) as usize
 }
 
-/// Replaces a by b in the face with this index, or drops it if it then has a number twice.
-fn collapse_face(faces: &mut Vec<Face>, k: usize, a: u32, b: u32)
-    requires index { k < length faces.old.items }
-    ensures { faces.new.items
-        ≡ take k faces.old.items
-        ++ (faces_after a b (take 1 (drop k faces.old.items)) ++ drop (k + 1) faces.old.items) }
+/// Whether the face is dropped where it becomes the other: it was left, and then has a number twice.
+fn is_dropped(face: Face, moved: Face) -> bool
+    ensures { result ≡ (has_distinct_numbers face && not (has_distinct_numbers moved)) }
 {
-    let moved = face_to(faces[k], a, b);
-    if has_distinct_numbers(moved) {
-        faces[k] = moved;
-    } else {
-        faces.remove(k);
+    has_distinct_numbers(face) && !has_distinct_numbers(moved)
+}
+
+/// Does a collapse of a to b, whose corners are listed: replaces a by b in each face. Those that then have a number
+/// twice are dropped by that; returns how many these are.
+pub(crate) fn move_corners(faces: &mut Vec<Face>, corners: &[u32], a: u32, b: u32) -> usize
+    requires apart { a ≢ b }
+    requires corners { All (λ c. c / 3 < length faces.old.items) corners.now }
+    requires all { (k : ℕ) → k < length faces.old.items →
+        has_number a (slice_index_or faces.old.items k no_face) ≡ true →
+        list_any (λ c. c / 3 == k) corners.now ≡ true }
+    ensures faces { faces.new.items ≡ map (face_to a b) faces.old.items }
+    ensures count { result + length (left faces.new.items) ≡ length (left faces.old.items) }
+{
+    let mut dropped = 0;
+    for corner in corners {
+        let face = faces[slot_of(*corner)];
+        let moved = face_to(face, a, b);
+        if is_dropped(face, moved) {
+            dropped += 1;
+        }
+        faces[slot_of(*corner)] = moved;
     }
+    dropped
 }
 
 /// Returns the point with this number.
 #[tactic(auto, unfolding(crate::specs::Internal::Faces::point_at))]
-fn point_at(points: &[Pt], n: u32) -> Pt
+pub(crate) fn point_at(points: &[Pt], n: u32) -> Pt
     requires number { n < length points.now }
     ensures { result ≡ point_at points.now n }
 {
@@ -176,7 +178,7 @@ fn kept_at(tris: &[Tagged], points: &[Pt], face: Face) -> Kept
     }
 }
 
-/// Returns the triangles of the faces, in order, each beside the one that it was.
+/// Returns the triangles of the faces that are left, in order, each beside the one that it was.
 pub(crate) fn kept_of(
     alloc: Global,
     tris: &[Tagged],
@@ -185,11 +187,13 @@ pub(crate) fn kept_of(
 ) -> Result<Vec<Kept>, Memory>
     requires numbers { All (IsNumbered (length points.now)) faces.now }
     requires was { All (λ f. f.was < length tris.now) faces.now }
-    ensures { IfOk result (λ kept. kept.items ≡ state_of tris.now points.now faces.now) }
+    ensures { IfOk result (λ kept. kept.items ≡ state_of tris.now points.now (left faces.now)) }
 {
-    let mut kept = Vec::with_capacity(alloc, faces.len())?;
+    let mut kept = Vec::new(alloc);
     for face in faces {
-        kept.push(kept_at(tris, points, *face))?;
+        if has_distinct_numbers(*face) {
+            kept.push(kept_at(tris, points, *face))?;
+        }
     }
     Ok(kept)
 }

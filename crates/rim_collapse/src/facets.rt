@@ -1,15 +1,17 @@
-ghost use Rattle.std.specs.Prelude.{◌≡◌, ◌≤◌, ◌<◌, IfSome, IsTrue, None, OnOk, length, map, sum_by, All};
+ghost use Rattle.std.specs.Prelude.{◌≡◌, ◌≤◌, ◌<◌, ◌/◌, IfSome, IsTrue, None, OnOk, length, map, sum_by, All};
 ghost use Rattle.std.specs.List.{list_all};
 ghost use Rattle.geom_core.specs.declared.limits.TheConstants.{TRIANGLES_PER_GROUP};
-ghost use Rattle.geom_core.specs.Limits.{IsGridPoint, IsGridTriangle};
-ghost use Rattle.rim_collapse.specs.Cost.{around};
+ghost use Rattle.geom_core.specs.Limits.{HasGridCorners, IsGridPoint, IsGridTriangle};
+ghost use Rattle.rim_collapse.specs.Internal.Chains.{face_at, faces_at};
+ghost use Rattle.rim_collapse.specs.Internal.Faces.{IsNumbered, left, tris_at};
 ghost use Rattle.rim_collapse.specs.Internal.Facets.{IsFacet, facet_cost, facet_keeps, facet_of};
 ghost use Rattle.rim_collapse.specs.Internal.Sizes.{IsWithin};
 ghost use Rattle.rim_collapse.specs.Legal.{keeps_facing};
 ghost use Rattle.rim_collapse.specs.declared.facets.TheConstants.{COST_MAX};
 ghost use Rattle.rim_collapse.specs.declared.vectors.TheConstants.{NORMAL_LIMIT};
 
-use crate::corners::{has_corner, replaced};
+use crate::corners::replaced;
+use crate::faces::{Face, has_distinct_numbers, slot_of, tri_at};
 use crate::vectors::{Vector, dot, normal};
 use geom_core::{Memory, Pt, Tri};
 
@@ -25,18 +27,36 @@ pub(crate) struct Facet {
     pub normal: Vector,
 }
 
-/// Lists the triangles with corner `a`, with their normals, in place of what was listed.
-pub(crate) fn list_facets(facets: &mut Vec<Facet>, tris: &[Tri], a: Pt) -> Result<(), Memory>
-    requires triangles { All IsGridTriangle tris.now }
-    ensures { OnOk result (facets.new.items ≡ map facet_of (around a tris.now)) }
+/// Returns the triangle with its normal.
+fn facet_of(tri: Tri) -> Facet
+    requires { HasGridCorners tri }
+    ensures { result ≡ facet_of tri }
+{
+    Facet {
+        tri,
+        normal: normal(tri),
+    }
+}
+
+/// Lists the triangles of the faces that are left and have one of the corners, with their normals, in place of what
+/// was listed.
+pub(crate) fn list_facets(
+    facets: &mut Vec<Facet>,
+    points: &[Pt],
+    faces: &[Face],
+    corners: &[u32],
+) -> Result<(), Memory>
+    requires numbers { All (IsNumbered (length points.now)) faces.now }
+    requires triangles { All IsGridTriangle (tris_at points.now (left faces.now)) }
+    requires corners { All (λ c. c / 3 < length faces.now) corners.now }
+    ensures { OnOk result (facets.new.items ≡ map facet_of
+        (tris_at points.now (faces_at faces.now corners.now))) }
 {
     facets.clear();
-    for tri in tris {
-        if has_corner(*tri, a) {
-            facets.push(Facet {
-                tri: *tri,
-                normal: normal(*tri),
-            })?;
+    for corner in corners {
+        let face = faces[slot_of(*corner)];
+        if has_distinct_numbers(face) {
+            facets.push(facet_of(tri_at(points, face)))?;
         }
     }
     Ok(())

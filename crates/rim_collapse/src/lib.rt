@@ -13,14 +13,16 @@
 #![tactic(auto)]
 
 mod bests;
+mod chains;
 mod corners;
 mod faces;
 mod facets;
 mod keys;
 pub mod laws;
 mod least;
-mod marks;
+mod number_sets;
 mod points;
+mod rounds;
 mod simplifying;
 mod states;
 #[cfg(test)]

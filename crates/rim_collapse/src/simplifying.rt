@@ -1,37 +1,38 @@
-ghost use Rattle.std.specs.Prelude.{◌≡◌, ◌≤◌, ◌<◌, ◌*◌, IfOk, OnOk, IsTrue, ℕ, true, false};
-ghost use Rattle.std.specs.Prelude.{None, List, length, map, All, AllPairs, Contains, slice_index_or};
+ghost use Rattle.std.specs.Prelude.{◌≡◌, ◌≤◌, ◌<◌, ◌*◌, ◌-◌, IfOk, OnOk, IsTrue, ℕ, true, List, length, map, All};
+ghost use Rattle.std.specs.Prelude.{AllPairs, Contains, slice_index_or};
 ghost use Rattle.std.specs.declared.cmp.Ordering.TheVariants.{Less};
 ghost use Rattle.geom_core.specs.declared.limits.TheConstants.{TRIANGLES_PER_GROUP};
 ghost use Rattle.geom_core.specs.declared.points.Pt.{Pt};
 ghost use Rattle.geom_core.specs.declared.triangles.Tagged.{Tagged};
+ghost use Rattle.geom_core.specs.Corners.{IsCornerIn};
 ghost use Rattle.geom_core.specs.EdgeSum.{edge_sum, OnRim};
 ghost use Rattle.geom_core.specs.Limits.{IsGridTriangle};
 ghost use Rattle.geom_core.specs.Order.{point_cmp};
 ghost use Rattle.geom_core.specs.TaggedLists.{tris_of};
+ghost use Rattle.rim_collapse.specs.declared.faces.Face.{Face};
 ghost use Rattle.rim_collapse.specs.declared.states.Kept.{Kept};
-ghost use Rattle.rim_collapse.specs.Internal.Bests.{AreRight, IsBestAt};
-ghost use Rattle.rim_collapse.specs.Internal.Faces.{IsNumbered, point_at, state_of, tris_at};
-ghost use Rattle.rim_collapse.specs.Internal.Marks.{is_marked};
+ghost use Rattle.rim_collapse.specs.Internal.Bests.{AreRight};
+ghost use Rattle.rim_collapse.specs.Internal.Faces.{IsNumbered, face_to, left, point_at, state_of, tris_at};
+ghost use Rattle.rim_collapse.specs.Internal.Marks.{AreMarkedRound};
+ghost use Rattle.rim_collapse.specs.Internal.Progress.{IsProgress};
 ghost use Rattle.rim_collapse.specs.Internal.Steps.{IsNextOf};
 ghost use Rattle.rim_collapse.specs.Legal.{has_edge, is_among};
 ghost use Rattle.rim_collapse.specs.Moved.{moved_of};
 ghost use Rattle.rim_collapse.specs.Simplified.{IsSimplified};
 ghost use Rattle.rim_collapse.specs.Sound.{IsSound};
-ghost use Rattle.rim_collapse.specs.States.{after, tagged_of};
+ghost use Rattle.rim_collapse.specs.States.{after, begun, tagged_of};
 
-use crate::bests::{least_best, refresh};
-use crate::faces::{Face, collapse_faces, faces_of, kept_of};
-use crate::facets::Facet;
+use crate::bests::{first_bests, least_best, refresh};
+use crate::chains::{Chains, chains_of, join, list_corners};
+use crate::faces::{Face, faces_of, kept_of, move_corners};
 use crate::keys::Key;
-use crate::marks::{list_near, mark_block, mark_round};
+use crate::number_sets::{NumberSet, empty_set};
 use crate::points::{number_of, points_of};
+use crate::rounds::{Round, empty_round, put_round};
 use crate::states::{Kept, moved, tagged};
-use geom_core::{Memory, Pt, Tagged, TaggedTris, Tri};
+use geom_core::{Memory, Pt, Tagged, TaggedTris};
 use std::alloc::Global;
 use std::collections::BTreeSet;
-
-/// Points whose collapses are asked for at once at the start: their triangles are listed by one pass over all.
-const BLOCK: usize = 16;
 
 /// A simplified list.
 #[derive(Debug, Drop)]
@@ -43,131 +44,144 @@ pub struct Simplified {
     pub moved: u32,
 }
 
-/// Lists that are filled anew for each collapse, so that they take memory only once.
+/// The triangles that are left, and each point's least legal collapse.
 #[derive(Drop)]
-struct Scratch {
-    /// The points that are asked anew, by number.
-    marks: Vec<bool>,
-    /// The triangles that have a marked corner.
-    near: Vec<Tri>,
-    /// The triangles round one point.
-    facets: Vec<Facet>,
-}
-
-/// Asks the marked points for their least legal collapses, over the triangles near them; only the triangles round a
-/// point decide its collapses.
-fn ask_marked(
-    bests: &mut Vec<Option<Key>>,
-    scratch: &mut Scratch,
-    points: &[Pt],
-    faces: &[Face],
-    locked: &BTreeSet<Pt>,
-) -> Result<(), Memory>
-    requires count { length bests.old.items ≡ length points.now }
-    requires marks { length scratch.old.marks.items ≡ length points.now }
-    requires ascending { AllPairs (λ p q. point_cmp p q ≡ Less) points.now }
-    requires triangle_limit { length faces.now ≤ TRIANGLES_PER_GROUP }
-    requires numbers { All (IsNumbered (length points.now)) faces.now }
-    requires triangles { All IsGridTriangle (tris_at points.now faces.now) }
-    ensures count { OnOk result (length bests.new.items ≡ length points.now) }
-    ensures marks { OnOk result (scratch.new.marks ≡ scratch.old.marks) }
-    ensures asked { OnOk result ((k : ℕ) → k < length points.now →
-        is_marked scratch.old.marks.items k ≡ true →
-        IsBestAt (tris_at points.now faces.now) locked.now.keys (point_at points.now k)
-        (slice_index_or bests.new.items k None)) }
-    ensures others { OnOk result ((k : ℕ) → is_marked scratch.old.marks.items k ≡ false →
-        slice_index_or bests.new.items k None ≡ slice_index_or bests.old.items k None) }
-{
-    list_near(&mut scratch.near, points, faces, &scratch.marks)?;
-    refresh(
-        bests,
-        &mut scratch.facets,
-        points,
-        &scratch.near,
-        locked,
-        &scratch.marks,
-    )?;
-    Ok(())
-}
-
-/// Returns each point's least legal collapse, by number. Asks the points in blocks.
-fn first_bests(
-    alloc: Global,
-    scratch: &mut Scratch,
-    points: &[Pt],
-    faces: &[Face],
-    locked: &BTreeSet<Pt>,
-) -> Result<Vec<Option<Key>>, Memory>
-    requires marks { length scratch.old.marks.items ≡ length points.now }
-    requires ascending { AllPairs (λ p q. point_cmp p q ≡ Less) points.now }
-    requires triangle_limit { length faces.now ≤ TRIANGLES_PER_GROUP }
-    requires point_limit { length points.now ≤ 3 * TRIANGLES_PER_GROUP }
-    requires numbers { All (IsNumbered (length points.now)) faces.now }
-    requires triangles { All IsGridTriangle (tris_at points.now faces.now) }
-    ensures marks { IfOk result (λ bests. length scratch.new.marks.items ≡ length points.now) }
-    ensures count { IfOk result (λ bests. length bests.items ≡ length points.now) }
-    ensures right { IfOk result (λ bests.
-        AreRight (tris_at points.now faces.now) locked.now.keys points.now bests.items) }
-{
-    let mut bests = vec![in alloc; None; points.len()]?;
-    for block in 0..points.len().div_ceil(BLOCK) {
-        let start = block * BLOCK;
-        mark_block(&mut scratch.marks, start, start + BLOCK);
-        ask_marked(&mut bests, scratch, points, faces, locked)?;
-    }
-    Ok(bests)
+struct Progress {
+    /// The faces of all triangles that were given; those with a number twice are no longer left.
+    faces: Vec<Face>,
+    /// How many of them are left.
+    left: usize,
+    /// The corners of each point.
+    chains: Chains,
+    /// Each point's least legal collapse, by number.
+    bests: Vec<Option<Key>>,
+    /// The points that are asked anew.
+    asked: NumberSet,
+    /// What lies round one point.
+    round: Round,
 }
 
 /// Returns the next collapse, or `None` if at most half of the `count` triangles are left or no collapse is legal.
-fn next_collapse(faces: &[Face], bests: &[Option<Key>], count: usize) -> Option<Key>
-    requires triangle_limit { length faces.now ≤ TRIANGLES_PER_GROUP }
-    ensures { (tris : List Tagged) → (locked points : List Pt) →
-        All (IsNumbered (length points)) faces.now → length bests.now ≡ length points →
-        AreRight (tris_at points faces.now) locked points bests.now →
-        IsNextOf locked count (state_of tris points faces.now) result }
+fn next_collapse(bests: &[Option<Key>], left: usize, count: usize) -> Option<Key>
+    requires triangle_limit { left ≤ TRIANGLES_PER_GROUP }
+    ensures { (tris : List Tagged) (locked points : List Pt) (faces : List Face) →
+        left ≡ length faces → All (IsNumbered (length points)) faces → length bests.now ≡ length points →
+        AreRight (tris_at points faces) locked points bests.now →
+        IsNextOf locked count (state_of tris points faces) result }
 {
-    if 2 * faces.len() <= count {
+    if 2 * left <= count {
         return None;
     }
     least_best(bests)
 }
 
+/// Does a collapse of point `a` to point `b`. Lists the corners of the triangles that it changes in `asked`.
+fn collapse(progress: &mut Progress, points: &[Pt], a: u32, b: u32) -> Result<(), Memory>
+    requires progress { IsProgress points.now progress.old }
+    requires ascending { AllPairs (λ p q. point_cmp p q ≡ Less) points.now }
+    requires a { a < length points.now }
+    requires b { b < length points.now }
+    requires edge { has_edge (tris_at points.now (left progress.old.faces.items))
+        (point_at points.now a) (point_at points.now b) ≡ true }
+    ensures progress { OnOk result (IsProgress points.now progress.new) }
+    ensures faces { OnOk result (
+        progress.new.faces.items ≡ map (face_to a b) progress.old.faces.items) }
+    ensures bests { OnOk result (progress.new.bests ≡ progress.old.bests) }
+    ensures asked { OnOk result (
+        AreMarkedRound a progress.new.asked.marks.items (left progress.old.faces.items)) }
+{
+    list_corners(&mut progress.round.corners, &progress.chains, a)?;
+    put_round(
+        &mut progress.asked,
+        &progress.faces,
+        &progress.round.corners,
+    )?;
+    progress.left -= move_corners(&mut progress.faces, &progress.round.corners, a, b);
+    join(&mut progress.chains, a, b, last_of(&progress.round.corners));
+    Ok(())
+}
+
+/// Returns the last of the corners.
+fn last_of(corners: &[u32]) -> u32
+    requires count { 0 < length corners.now }
+    ensures { result ≡ slice_index_or corners.now (length corners.now - 1) 0 }
+{
+    corners[corners.len() - 1]
+}
+
 /// Does a collapse of a to b. Asks the points anew round which it changes triangles; the least legal collapse of each
 /// other point stays, as only the triangles round a point decide it.
-fn collapse(
-    faces: &mut Vec<Face>,
-    bests: &mut Vec<Option<Key>>,
-    scratch: &mut Scratch,
+fn step(
+    progress: &mut Progress,
     points: &[Pt],
     locked: &BTreeSet<Pt>,
     a: Pt,
     b: Pt,
 ) -> Result<(), Memory>
-    requires triangle_limit { length faces.old.items ≤ TRIANGLES_PER_GROUP }
+    requires progress { IsProgress points.now progress.old }
     requires point_limit { length points.now ≤ 3 * TRIANGLES_PER_GROUP }
     requires ascending { AllPairs (λ p q. point_cmp p q ≡ Less) points.now }
-    requires count { length bests.old.items ≡ length points.now }
-    requires marks { length scratch.old.marks.items ≡ length points.now }
-    requires numbers { All (IsNumbered (length points.now)) faces.old.items }
-    requires triangles { All IsGridTriangle (tris_at points.now faces.old.items) }
-    requires edge { has_edge (tris_at points.now faces.old.items) a b ≡ true }
-    ensures numbers { OnOk result (All (IsNumbered (length points.now)) faces.new.items) }
-    ensures was { OnOk result ((count : ℕ) →
-        All (λ f. f.was < count) faces.old.items → All (λ f. f.was < count) faces.new.items) }
+    requires right { AreRight (tris_at points.now (left progress.old.faces.items)) locked.now.keys
+        points.now progress.old.bests.items }
+    requires edge { has_edge (tris_at points.now (left progress.old.faces.items)) a b ≡ true }
+    ensures progress { OnOk result (IsProgress points.now progress.new) }
+    ensures was { OnOk result ((count : ℕ) → All (λ f. f.was < count) progress.old.faces.items →
+        All (λ f. f.was < count) progress.new.faces.items) }
     ensures state { OnOk result ((tris : List Tagged) →
-        state_of tris points.now faces.new.items ≡ after a b (state_of tris points.now faces.old.items)) }
-    ensures count { OnOk result (length bests.new.items ≡ length points.now) }
-    ensures marks { OnOk result (length scratch.new.marks.items ≡ length points.now) }
-    ensures right { OnOk result (
-        AreRight (tris_at points.now faces.old.items) locked.now.keys points.now bests.old.items →
-        AreRight (tris_at points.now faces.new.items) locked.now.keys points.now bests.new.items) }
+        state_of tris points.now (left progress.new.faces.items)
+        ≡ after a b (state_of tris points.now (left progress.old.faces.items))) }
+    ensures right { OnOk result (AreRight (tris_at points.now (left progress.new.faces.items))
+        locked.now.keys points.now progress.new.bests.items) }
 {
     let from = number_of(points, a);
     let to = number_of(points, b);
-    mark_round(&mut scratch.marks, faces, from);
-    collapse_faces(faces, from, to);
-    ask_marked(bests, scratch, points, faces, locked)?;
+    collapse(progress, points, from, to)?;
+    refresh(
+        &mut progress.bests,
+        &mut progress.round,
+        points,
+        &progress.faces,
+        &progress.chains,
+        locked,
+        &progress.asked.members,
+    )?;
     Ok(())
+}
+
+/// Returns the state before any collapse.
+fn begin(
+    alloc: Global,
+    tris: &[Tagged],
+    points: &[Pt],
+    locked: &BTreeSet<Pt>,
+) -> Result<Progress, Memory>
+    requires triangle_limit { length tris.now ≤ TRIANGLES_PER_GROUP }
+    requires point_limit { length points.now ≤ 3 * TRIANGLES_PER_GROUP }
+    requires ascending { AllPairs (λ p q. point_cmp p q ≡ Less) points.now }
+    requires corners { (p : Pt) → IsCornerIn (tris_of tris.now) p → Contains points.now p }
+    requires triangles { All IsGridTriangle (tris_of tris.now) }
+    ensures progress { IfOk result (IsProgress points.now) }
+    ensures was { IfOk result (λ progress.
+        All (λ f. f.was < length tris.now) progress.faces.items) }
+    ensures state { IfOk result (λ progress.
+        state_of tris.now points.now (left progress.faces.items) ≡ begun tris.now) }
+    ensures right { IfOk result (λ progress.
+        AreRight (tris_at points.now (left progress.faces.items)) locked.now.keys points.now
+        progress.bests.items) }
+{
+    let faces = faces_of(alloc, points, tris)?;
+    let chains = chains_of(alloc, &faces, points.len())?;
+    let asked = empty_set(alloc, points.len())?;
+    let mut round = empty_round(alloc, points.len())?;
+    let bests = first_bests(alloc, &mut round, points, &faces, &chains, locked)?;
+    Ok(Progress {
+        faces,
+        left: tris.len(),
+        chains,
+        bests,
+        asked,
+        round,
+    })
 }
 
 /// Returns the state to which a list is simplified.
@@ -177,25 +191,11 @@ fn end_state(alloc: Global, tris: &[Tagged], locked: &BTreeSet<Pt>) -> Result<Ve
     ensures { IfOk result (λ kept. IsSimplified tris.now locked.now.keys kept.items) }
 {
     let points = points_of(alloc, tris)?;
-    let mut faces = faces_of(alloc, &points, tris)?;
-    let mut scratch = Scratch {
-        marks: vec![in alloc; false; points.len()]?,
-        near: Vec::new(alloc),
-        facets: Vec::new(alloc),
-    };
-    let mut bests = first_bests(alloc, &mut scratch, &points, &faces, locked)?;
-    'collapses: while let Some(key) = next_collapse(&faces, &bests, tris.len()) {
-        collapse(
-            &mut faces,
-            &mut bests,
-            &mut scratch,
-            &points,
-            locked,
-            key.from,
-            key.to,
-        )?;
+    let mut progress = begin(alloc, tris, &points, locked)?;
+    'collapses: while let Some(key) = next_collapse(&progress.bests, progress.left, tris.len()) {
+        step(&mut progress, &points, locked, key.from, key.to)?;
     }
-    let kept = kept_of(alloc, tris, &points, &faces)?;
+    let kept = kept_of(alloc, tris, &points, &progress.faces)?;
     Ok(kept)
 }
 

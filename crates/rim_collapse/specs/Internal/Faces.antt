@@ -61,6 +61,10 @@ face_to a b f = record { a = renumbered a b f.a; b = renumbered a b f.b; c = ren
 unfoldable pub has_distinct_numbers : Face → Bool
 has_distinct_numbers f = not (f.a == f.b) && not (f.b == f.c) && not (f.c == f.a)
 
+-- the faces that are left: those without a number twice
+abbrev pub left : List Face → List Face
+left faces = filter has_distinct_numbers faces
+
 -- the faces after a collapse of a to b
 abbrev pub faces_after : ℕ → ℕ → List Face → List Face
-faces_after a b faces = filter has_distinct_numbers (map (face_to a b) faces)
+faces_after a b faces = left (map (face_to a b) faces)

@@ -1,15 +1,19 @@
 -- Points that are marked by their numbers.
-use Rattle.std.specs.Prelude.{◌≡◌, Bool, true, false, ◌||◌, ℕ, List, All, slice_index_or}
+use Rattle.std.specs.Prelude.{◌≡◌, ◌==◌, Bool, true, false, ℕ, List, length, All, slice_index_or}
+use Rattle.std.specs.List.{list_any}
 use Rattle.rim_collapse.specs.declared.faces.Face.{Face}
+use Rattle.rim_collapse.specs.declared.number_sets.NumberSet.{NumberSet}
 use Rattle.rim_collapse.specs.Internal.Faces.{has_number}
 
 -- the point with this number is marked
 abbrev pub is_marked : List Bool → ℕ → Bool
 is_marked marks n = slice_index_or marks n false
 
--- some corner of the face is marked
-unfoldable pub touches : List Bool → Face → Bool
-touches marks f = is_marked marks f.a || is_marked marks f.b || is_marked marks f.c
+-- the set of numbers below the limit has these marks, and lists those that are marked
+pub record IsSetBelow (limit : ℕ) (set : NumberSet) : Type 0 where
+  pub size : length set.marks.items ≡ limit
+  pub listed : (k : ℕ) → is_marked set.marks.items k ≡ true → list_any (λ m. m == k) set.members.items ≡ true
+  pub marked : All (λ m. is_marked set.marks.items m ≡ true) set.members.items
 
 -- all corners of the face are marked
 pub record HasMarkedCorners (marks : List Bool) (f : Face) : Type 0 where

@@ -1,7 +1,9 @@
 use Rattle.std.proofs.Common.{◌≡◌, map, take}
-use Rattle.rim_collapse.specs.Cost.{around}
+use Rattle.rim_collapse.specs.Internal.Chains.{faces_at}
+use Rattle.rim_collapse.specs.Internal.Faces.{tris_at}
 use Rattle.rim_collapse.specs.Internal.Facets.{facet_of}
 use Rattle.rim_collapse.proofs.facets.list_facets.Given as goal
 
-abbrev pub invariant-loop-tri : goal.invariant-loop-tri
-invariant-loop-tri l = l.facets.items ≡ map facet_of (around l.a (take l.tri-index l.tris))
+abbrev pub invariant-loop-corner : goal.invariant-loop-corner
+invariant-loop-corner l =
+    l.facets.items ≡ map facet_of (tris_at l.points (faces_at l.faces (take l.corner-index l.corners)))

@@ -1,11 +1,13 @@
 use Rattle.std.proofs.Common.{take}
 use Rattle.std.specs.List.{list_any}
-use Rattle.geom_core.specs.Corners.{has_corner}
+use Rattle.geom_core.specs.EdgeSum.{same_point}
 use Rattle.rim_collapse.specs.Internal.Bests.{IsBestOf}
+use Rattle.rim_collapse.specs.Internal.Faces.{point_at}
 use Rattle.rim_collapse.specs.Internal.Facets.{tris_in}
 use Rattle.rim_collapse.proofs.least.least_of.Given as goal
 
--- the best collapse to a corner of the facets so far
-abbrev pub invariant-loop-facet : goal.invariant-loop-facet
-invariant-loop-facet l =
-    IsBestOf (tris_in l.facets) l.a (λ q. list_any (λ f. has_corner q f.tri) (take l.facet-index l.facets)) l.best
+-- the best collapse to one of the targets so far
+abbrev pub invariant-loop-target : goal.invariant-loop-target
+invariant-loop-target l =
+    IsBestOf (tris_in l.facets) l.a
+    (λ q. list_any (λ n. same_point (point_at l.points n) q) (take l.target-index l.targets)) l.best

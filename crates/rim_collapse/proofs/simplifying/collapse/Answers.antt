@@ -1,108 +1,92 @@
-use Rattle.std.proofs.Common.{◌≡◌, ◌<◌, ℕ, List, true, All, length, sym, ap, subst, ◌∙◌, None, arith}
-use Rattle.std.specs.Prelude.{slice_index_or}
-use Rattle.geom_core.specs.Limits.{IsGridTriangle}
-use Rattle.geom_core.specs.declared.points.Pt.{Pt}
-use Rattle.rim_collapse.specs.declared.faces.Face.{Face}
-use Rattle.rim_collapse.specs.Legal.{has_edge}
-use Rattle.rim_collapse.specs.States.{after}
-use Rattle.rim_collapse.specs.Internal.Bests.{AreRight, IsBestAt}
-use Rattle.rim_collapse.specs.Internal.Faces.{IsNumbered, faces_after, point_at, state_of, tris_at}
-use Rattle.rim_collapse.specs.Internal.Marks.{AreMarkedRound}
-use Rattle.rim_collapse.proofs.CollapsedFaces.{distinct-faces}
-use Rattle.rim_collapse.proofs.FaceLaws.{corners-numbered, face_to-numbered, faces_after-all, state_of-after}
-use Rattle.rim_collapse.proofs.Following.{target-corner}
-use Rattle.rim_collapse.proofs.NearLaws.{after-few, after-grid, right-after}
-use Rattle.rim_collapse.proofs.StepLaws.{source-corner}
+use Rattle.std.proofs.Common.{◌≡◌, ◌<◌, ◌/◌, ◌-◌, true, All, length, get_or, sym, ap, ◌∙◌, subst, arith}
+use Rattle.std.specs.Bool.{◌==◌}
+use Rattle.std.specs.List.{list_any}
+use Rattle.rim_collapse.specs.Internal.Chains.{faces_at}
+use Rattle.rim_collapse.specs.Internal.Faces.{left, point_at, tris_at}
+use Rattle.rim_collapse.specs.Internal.Marks.{HasMarkedCorners, IsSetBelow}
+use Rattle.rim_collapse.proofs.FaceChains.{chain-all, chain-nexts, chain-slots}
+use Rattle.rim_collapse.proofs.Collapsing.{chain-some, chained-joined, counts-few, marked-round, mesh-after}
+use Rattle.rim_collapse.proofs.Collapsing.{last-below, numbers-apart}
 use Rattle.rim_collapse.proofs.simplifying.collapse.Goals as goal
 
-pub number_of-from-requires-clause-listed : goal.number_of-from-requires-clause-listed
-number_of-from-requires-clause-listed c =
-    corners-numbered c.args.points.now c.args.faces.now.items c.args.a c.requires.numbers
-    (source-corner (tris_at c.args.points.now c.args.faces.now.items) c.args.a c.args.b c.requires.edge)
+pub list_corners-requires-clause-corners : goal.list_corners-requires-clause-corners
+list_corners-requires-clause-corners c =
+    chain-nexts (length c.args.points.now) c.args.progress.now.faces.items c.args.progress.now.chains c.args.a
+    c.requires.progress.mesh.linked c.requires.a
 
-pub number_of-to-requires-clause-listed : goal.number_of-to-requires-clause-listed
-number_of-to-requires-clause-listed c =
-    corners-numbered c.args.points.now c.args.faces.now.items c.args.b c.requires.numbers
-    (target-corner (tris_at c.args.points.now c.args.faces.now.items) c.args.a c.args.b c.requires.edge)
+pub put_round-requires-clause-corners : goal.put_round-requires-clause-corners
+put_round-requires-clause-corners c =
+    subst (λ l. All (λ d. d / 3 < length l) c.deref-2.result.now) (sym c.deref.ensures.value)
+    (subst (All (λ d. d / 3 < length c.args.progress.now.faces.items))
+    (sym (c.deref-2.ensures.value ∙ c.in_ok-list_corners.ensures))
+    (chain-slots (length c.args.points.now) c.args.progress.now.faces.items c.args.progress.now.chains c.args.a
+    c.requires.progress.mesh.linked c.requires.a))
 
-numbered : (n from to : ℕ) (faces : List Face) → to < n → All (IsNumbered n) faces →
-    All (IsNumbered n) (faces_after from to faces)
-numbered n from to faces in_to all =
-    faces_after-all (IsNumbered n) from to faces (λ f. face_to-numbered n from to f in_to) all
+pub move_corners-requires-clause-apart : goal.move_corners-requires-clause-apart
+move_corners-requires-clause-apart c =
+    numbers-apart c.args.points.now (tris_at c.args.points.now (left c.args.progress.now.faces.items)) c.args.a c.args.b
+    c.requires.edge
 
-edge_at : (points : List Pt) (faces : List Face) (p q a b : Pt) → p ≡ a → q ≡ b →
-    has_edge (tris_at points faces) a b ≡ true → has_edge (tris_at points faces) p q ≡ true
-edge_at points faces p q a b at_a at_b edge = rw (at_a, at_b) edge
+pub move_corners-requires-clause-corners : goal.move_corners-requires-clause-corners
+move_corners-requires-clause-corners c =
+    subst (All (λ d. d / 3 < length c.args.progress.now.faces.items))
+    (sym (c.deref-3.ensures.value ∙ c.in_ok-list_corners.ensures))
+    (chain-slots (length c.args.points.now) c.args.progress.now.faces.items c.args.progress.now.chains c.args.a
+    c.requires.progress.mesh.linked c.requires.a)
 
-pub collapse_faces-requires : goal.collapse_faces-requires
-collapse_faces-requires c = record {
-  distinct = distinct-faces c.args.points.now c.args.faces.now.items c.requires.ascending c.requires.numbers
-      c.requires.triangles;
+pub move_corners-requires-clause-all : goal.move_corners-requires-clause-all
+move_corners-requires-clause-all c = λ k within has.
+    subst (λ l. list_any (λ d. d / 3 == k) l ≡ true) (sym (c.deref-3.ensures.value ∙ c.in_ok-list_corners.ensures))
+    (chain-all (length c.args.points.now) c.args.progress.now.faces.items c.args.progress.now.chains c.args.a k
+    c.requires.progress.mesh.linked c.requires.a within has)
+
+pub last_of-requires : goal.last_of-requires
+last_of-requires c = record {
+  count = subst (λ l. 0 < length l) (sym (c.deref-4.ensures.value ∙ c.in_ok-list_corners.ensures))
+      (chain-some c.args.points.now c.args.progress.now.faces.items c.args.progress.now.chains c.args.a
+      (point_at c.args.points.now c.args.b) c.requires.progress.mesh c.requires.a c.requires.edge);
 }
 
-listed : (c : goal.After-deref-2) → c.deref-2.result.now ≡
-    faces_after c.number_of-from.result c.number_of-to.result c.args.faces.now.items
-listed c = c.deref-2.ensures.value ∙ c.collapse_faces.ensures
+pub join-requires-clause-last : goal.join-requires-clause-last
+join-requires-clause-last c =
+    last-below c.args.points.now c.args.progress.now.faces.items c.args.progress.now.chains c.args.a
+    (point_at c.args.points.now c.args.b) c.last_of.result c.deref-4.result.now
+    c.requires.progress.mesh c.requires.a c.requires.edge
+    (c.deref-4.ensures.value ∙ c.in_ok-list_corners.ensures) c.last_of.ensures
 
-pub ask_marked-requires-clause-triangle_limit : goal.ask_marked-requires-clause-triangle_limit
-ask_marked-requires-clause-triangle_limit c =
-    let few = after-few c.number_of-from.result c.number_of-to.result c.args.faces.now.items in
-    rw (listed c) (omega (arith, few, c.requires.triangle_limit))
+pub join-requires-clause-count : goal.join-requires-clause-count
+join-requires-clause-count c =
+    counts-few c.args.points.now c.args.progress.now.faces.items c.args.progress.now.chains c.args.a c.args.b
+    c.requires.progress.mesh c.requires.a c.requires.b
 
-pub ask_marked-requires-clause-numbers : goal.ask_marked-requires-clause-numbers
-ask_marked-requires-clause-numbers c =
-    subst (All (IsNumbered (length c.args.points.now))) (sym (listed c))
-    (numbered (length c.args.points.now) c.number_of-from.result
-    c.number_of-to.result c.args.faces.now.items c.number_of-to.ensures.number c.requires.numbers)
-
-pub ask_marked-requires-clause-triangles : goal.ask_marked-requires-clause-triangles
-ask_marked-requires-clause-triangles c =
-    subst (λ l. All IsGridTriangle (tris_at c.args.points.now l)) (sym (listed c))
-    (after-grid c.args.points.now c.number_of-from.result c.number_of-to.result c.args.faces.now.items
-    c.requires.ascending c.number_of-from.ensures.number c.number_of-to.ensures.number c.requires.numbers
-    c.requires.triangles
-    (edge_at c.args.points.now c.args.faces.now.items _ _ c.args.a c.args.b c.number_of-from.ensures.point
-    c.number_of-to.ensures.point c.requires.edge))
-
-pub returns-clause-numbers : goal.returns-clause-numbers
-returns-clause-numbers c =
-    subst (All (IsNumbered (length c.args.points.now))) ((sym c.collapse_faces.ensures))
-    (numbered (length c.args.points.now) c.number_of-from.result
-    c.number_of-to.result c.args.faces.now.items c.number_of-to.ensures.number c.requires.numbers)
-
-pub returns-clause-was : goal.returns-clause-was
-returns-clause-was c = λ count all.
-    subst (All (λ (f : Face). f.was < count)) ((sym c.collapse_faces.ensures))
-    (faces_after-all (λ (f : Face). f.was < count) c.number_of-from.result c.number_of-to.result
-    c.args.faces.now.items (λ f h. h) all)
-
-pub returns-clause-state : goal.returns-clause-state
-returns-clause-state c = λ tris.
+pub returns-clause-progress : goal.returns-clause-progress
+returns-clause-progress c =
     let points = c.args.points.now in
-    let faces = c.args.faces.now.items in
-    let from = c.number_of-from.result in
-    let to = c.number_of-to.result in
-    ap (state_of tris points) c.collapse_faces.ensures ∙
-    state_of-after tris points from to faces c.requires.ascending c.number_of-from.ensures.number
-    c.number_of-to.ensures.number c.requires.numbers ∙
-    ap (λ p. after p (point_at points to) (state_of tris points faces)) c.number_of-from.ensures.point ∙
-    ap (λ p. after c.args.a p (state_of tris points faces)) c.number_of-to.ensures.point
+    let faces = c.args.progress.now.faces.items in
+    let chains = c.args.progress.now.chains in
+    let before = c.requires.progress in
+    let corners = c.deref-4.ensures.value ∙ c.in_ok-list_corners.ensures in
+    record {
+      mesh = mesh-after points faces c.move_corners.new.faces.items chains c.join.new.chains c.args.a c.args.b
+          before.mesh
+          c.requires.a c.requires.b c.requires.edge c.move_corners.ensures.faces
+          (chained-joined (length points) faces chains c.join.new.chains c.args.a c.args.b c.last_of.result
+          before.mesh.linked c.requires.a c.requires.b
+          (numbers-apart points (tris_at points (left faces)) c.args.a c.args.b c.requires.edge)
+          (chain-some points faces chains c.args.a (point_at points c.args.b) before.mesh c.requires.a c.requires.edge)
+          (c.last_of.ensures ∙ ap (λ l. get_or l (length l - 1) 0) corners)
+          c.join.ensures.firsts c.join.ensures.counts c.join.ensures.nexts);
+      left = omega (arith, before.left, c.move_corners.ensures.count);
+      bests = before.bests;
+      asked = subst (λ n. IsSetBelow n c.put_round.new.set) before.asked.size c.in_ok-put_round.ensures.members;
+      targets = before.targets;
+    }
 
-pub returns-clause-right : goal.returns-clause-right
-returns-clause-right c = λ right.
-    let points = c.args.points.now in
-    let faces = c.args.faces.now.items in
-    let keys = c.args.locked.now.keys in
-    let from = c.number_of-from.result in
-    let to = c.number_of-to.result in
-    let marks = c.mark_round.new.marks.items in
-    let next = c.ask_marked.new.bests.items in
-    subst (λ l. AreRight (tris_at points l) keys points next) ((sym c.collapse_faces.ensures))
-    (right-after marks points keys from to faces c.args.bests.now.items next c.requires.ascending
-    c.number_of-from.ensures.number c.number_of-to.ensures.number c.requires.numbers c.requires.triangles
-    (subst (AreMarkedRound from marks) c.deref.ensures.value c.mark_round.ensures.round)
-    (edge_at c.args.points.now c.args.faces.now.items _ _ c.args.a c.args.b c.number_of-from.ensures.point
-    c.number_of-to.ensures.point c.requires.edge)
-    (λ k in_k marked. subst (λ l. IsBestAt (tris_at points l) keys (point_at points k) (slice_index_or next k None))
-    (c.deref-2.ensures.value ∙ c.collapse_faces.ensures) (c.in_ok-ask_marked.ensures.asked k in_k marked))
-    c.in_ok-ask_marked.ensures.others right)
+pub returns-clause-asked : goal.returns-clause-asked
+returns-clause-asked c =
+    marked-round (length c.args.points.now) c.args.progress.now.faces.items c.args.progress.now.chains c.args.a
+    c.put_round.new.set.marks.items c.requires.progress.mesh.linked c.requires.a
+    (subst (λ l. All (HasMarkedCorners c.put_round.new.set.marks.items) (faces_at c.args.progress.now.faces.items l))
+    (c.deref-2.ensures.value ∙ c.in_ok-list_corners.ensures)
+    (subst (λ l. All (HasMarkedCorners c.put_round.new.set.marks.items) (faces_at l c.deref-2.result.now))
+    c.deref.ensures.value c.in_ok-put_round.ensures.round))

@@ -7,10 +7,9 @@ use Rattle.rim_collapse.proofs.StepLaws.{next-of}
 use Rattle.rim_collapse.proofs.simplifying.next_collapse.Goals as goal
 
 pub returns : goal.returns
-returns c = λ tris locked points numbered same right.
-    let faces = c.args.faces.now in
+returns c = λ tris locked points faces count numbered same right.
     let is = length-state_of tris points faces in
-    let many : c.args.count < 2 * length (state_of tris points faces) = omega (arith, is) in
+    let many : c.args.count < 2 * length (state_of tris points faces) = omega (arith, is, count) in
     next-of locked c.args.count (state_of tris points faces) points c.least_best.result many
     (λ p corner. corners-numbered points faces p numbered
     (subst (λ l. IsCornerIn l p) (present-state_of tris points faces) corner))
